@@ -1,0 +1,57 @@
+// The types that code and definitions share. The definitions are in specs/.
+
+// A constraint S -> (l, N): the labels of S, with zeros after them, l, and N.
+pub struct Constraint {
+    pub first: u16,
+    pub second: u16,
+    pub third: u16,
+    pub label: u16,
+    pub most: u32,
+}
+
+// A key of a constraint: the constraint's number and three node ids, unused ones 4,294,967,295.
+pub struct Key {
+    pub constraint: u32,
+    pub first: u32,
+    pub second: u32,
+    pub third: u32,
+}
+
+// What a lookup finds: where the list starts among the entries, and how many it has.
+pub enum Found {
+    At(u32, u32),
+    Nothing,
+}
+
+// An edge of the graph.
+pub struct Edge {
+    pub from: u32,
+    pub to: u32,
+}
+
+// An entry of a list: a node, and the directions of its edges with the key's nodes.
+pub struct Entry {
+    pub node: u32,
+    pub directions: u8,
+}
+
+// What building gives back: the number, and the length of the store.
+pub struct Built {
+    pub number: u32,
+    pub length: u32,
+}
+
+// What planning gives back: the number, and the bound T.
+pub struct Planned {
+    pub number: u32,
+    pub bound: u32,
+}
+
+// What listing gives back: the number, then matches, node entries, edge entries and T.
+pub struct Listed {
+    pub number: u32,
+    pub matches: u32,
+    pub nodes: u32,
+    pub edges: u32,
+    pub bound: u32,
+}
