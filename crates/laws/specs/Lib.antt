@@ -1,2 +1,7 @@
 -- Laws of lists, words and the rules, which the proofs of the functions cite. Assumes nothing.
 pub mod Sets
+pub mod Loops
+pub mod Halving
+pub mod Turns
+pub mod Cases
+pub mod Over
