@@ -5,3 +5,4 @@ pub mod Halving
 pub mod Turns
 pub mod Cases
 pub mod Over
+pub mod Header
