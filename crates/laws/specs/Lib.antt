@@ -6,3 +6,4 @@ pub mod Turns
 pub mod Cases
 pub mod Over
 pub mod Header
+pub mod Fitness
