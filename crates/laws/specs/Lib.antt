@@ -7,3 +7,4 @@ pub mod Cases
 pub mod Over
 pub mod Header
 pub mod Fitness
+pub mod Parts

@@ -7,4 +7,5 @@ use Rattle.store.proofs.fitness.directions_for.Tie as tie
 pub directions-for-spec : {M : Type 1} → statement M
 directions-for-spec =
     tie.close
-    (tie.spec (λ c. search (power-zero, power-one, power-two, power-three, needs)) (λ c. search (power-zero, power-one, power-two, power-three, needs)) (λ c. search (power-zero, power-one, power-two, power-three, needs)) (λ c. search (power-zero, power-one, power-two, power-three, needs)))
+    (tie.spec (λ c. search (power-zero, needs)) (λ c. search (power-one, needs))
+    (λ c. search (power-two, needs)) (λ c. search (power-three, needs)))

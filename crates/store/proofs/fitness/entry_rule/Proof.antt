@@ -1,7 +1,6 @@
 -- `store::fitness::entry_rule` meets its contract. Assumes nothing.
 use Rattle.laws.specs.Cases.{rows}
-use Rattle.laws.specs.Fitness.{entryRule}
-use Rattle.laws.specs.Fitness.{id-below}
+use Rattle.laws.specs.Fitness.{entryRule, id-below}
 use Rattle.store.proofs.fitness.entry_rule.Statement.{statement}
 use Rattle.store.proofs.fitness.entry_rule.Tie as tie
 

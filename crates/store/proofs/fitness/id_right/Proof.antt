@@ -1,6 +1,6 @@
 -- `store::fitness::id_right` meets its contract. Assumes nothing.
-use Rattle.laws.specs.Cases.{decide}
 use Rattle.rules.specs.Listing.{idRight}
+use Rattle.laws.specs.Cases.{decide}
 use Rattle.store.proofs.fitness.id_right.Statement.{statement}
 use Rattle.store.proofs.fitness.id_right.Tie as tie
 

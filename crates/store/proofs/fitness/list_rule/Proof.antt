@@ -7,4 +7,4 @@ use Rattle.store.proofs.fitness.list_rule.Tie as tie
 pub list-rule-spec : {M : Type 1} → statement M
 list-rule-spec =
     tie.close
-    (tie.spec (λ c κs. search (rule-none, rule-some, decide)) (λ c. search (rule-none, rule-some, decide)) (λ c. search (rule-none, rule-some, decide)))
+    (tie.spec (λ c κs. search decide) (λ c. search (rule-none, decide)) (λ c. search (rule-some, decide)))

@@ -1,9 +1,8 @@
 -- `store::fitness::lowest_rule` meets its contract. Invariant: what is left gives the whole. Assumes nothing.
 use Prim.Native.Nat.{_-_}
-use Rattle.laws.specs.Fitness.{lowered}
+use Rattle.laws.specs.Fitness.{lowered, lowestRule}
 use Rattle.laws.specs.Loops.{FoldLeft}
 use Rattle.laws.specs.Turns.{turns}
-use Rattle.laws.specs.Fitness.{lowestRule}
 use Rattle.store.proofs.fitness.lowest_rule.Statement.{statement}
 use Rattle.store.proofs.fitness.lowest_rule.Tie as tie
 

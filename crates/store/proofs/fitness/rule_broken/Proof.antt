@@ -10,5 +10,5 @@ pub rule-broken-spec : {M : Type 1} → statement M
 unfolding ruleBroken listRule
 rule-broken-spec =
     tie.close
-    (tie.spec (λ c κs. search (cond-yes, cond-no, lt-ltb, le-ltb, inside-room, rows)) (λ c. search (cond-yes, cond-no, lt-ltb, le-ltb, inside-room, rows)) (λ c. search (cond-yes, cond-no, lt-ltb, le-ltb, inside-room, rows)) (λ c κs. search (cond-yes, cond-no, lt-ltb, le-ltb, inside-room, rows))
-    (λ c. search (cond-yes, cond-no, lt-ltb, le-ltb, inside-room, rows)))
+    (tie.spec (λ c κs. search rows) (λ c. search rows) (λ c. search (cond-yes, lt-ltb, rows))
+    (λ c κs. search (inside-room, rows)) (λ c. search (cond-no, le-ltb, rows)))

@@ -1,6 +1,6 @@
 -- `store::lookup::found_at` meets its contract. Assumes nothing.
-use Rattle.laws.specs.Cases.{decide}
 use Rattle.rules.specs.Listing.{foundAt}
+use Rattle.laws.specs.Cases.{decide}
 use Rattle.store.proofs.lookup.found_at.Statement.{statement}
 use Rattle.store.proofs.lookup.found_at.Tie as tie
 

@@ -1,10 +1,9 @@
 -- `store::lookup::lowest` meets its contract. Invariant: what is left ends where the whole search does. Assumes nothing.
 use Prim.Native.Nat.{_-_}
 use Rattle.rules.specs.Store.{groupsIn}
-use Rattle.rules.specs.Listing.{precedes}
+use Rattle.rules.specs.Listing.{precedes, lowOf}
 use Rattle.laws.specs.Halving.{HalvingLeft}
 use Rattle.laws.specs.Turns.{turns}
-use Rattle.rules.specs.Listing.{lowOf}
 use Rattle.store.proofs.lookup.lowest.Statement.{statement}
 use Rattle.store.proofs.lookup.lowest.Tie as tie
 
