@@ -1,2 +1,6 @@
 -- Laws of lists, words and the rules, which the proofs of the functions cite. Assumes nothing.
+pub mod Signed
 pub mod Sets
+pub mod Keeping
+pub mod NodeRows
+pub mod Determined

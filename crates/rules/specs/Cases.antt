@@ -130,16 +130,28 @@ list-turned : listOutcome worldStore patternTurned (nines 76) (nines 4) ≡ give
 unfolding computes
 list-turned = refl
 
+no-match-turned : isMatch (storeGraph worldStore) patternTurned (1 ∷ 3 ∷ 5 ∷ 4 ∷ []) ≡ false
+unfolding computes
+no-match-turned = refl
+
 -- *locale, format and two fields: two pattern nodes are never on one graph node
 list-two-fields : listOutcome worldStore twoFields (nines 76) (nines 8) ≡ gives 0 (0 ∷ 8 ∷ 6 ∷ 38 ∷ []) (nines 8) (zeros 76)
 unfolding computes
 list-two-fields = refl
+
+no-match-one-field : isMatch (storeGraph worldStore) twoFields (1 ∷ 3 ∷ 5 ∷ 5 ∷ []) ≡ false
+unfolding computes
+no-match-one-field = refl
 
 -- two locales: two pattern nodes may bear one label, and symmetric choices count separately
 list-two-locales : listOutcome worldStore twoLocales (nines 8) (nines 5)
     ≡ gives 0 (2 ∷ 4 ∷ 0 ∷ 4 ∷ []) (0 ∷ 1 ∷ 1 ∷ 0 ∷ 9 ∷ []) (zeros 8)
 unfolding computes
 list-two-locales = refl
+
+match-two-locales : isMatch (storeGraph worldStore) twoLocales (1 ∷ 0 ∷ []) ≡ true
+unfolding computes
+match-two-locales = refl
 
 -- *one locale node: rows 0 and 1
 list-locale : listOutcome worldStore oneLocale (nines 4) (nines 3) ≡ gives 0 (2 ∷ 2 ∷ 0 ∷ 2 ∷ []) (0 ∷ 1 ∷ 9 ∷ []) (zeros 4)
