@@ -2,5 +2,6 @@
 pub mod Signed
 pub mod Sets
 pub mod Keeping
-pub mod NodeRows
+pub mod Smallest
+pub mod Choices
 pub mod Determined
