@@ -5,3 +5,9 @@ pub mod Keeping
 pub mod Smallest
 pub mod Choices
 pub mod Determined
+pub mod Loops
+pub mod Halving
+pub mod Turns
+pub mod Cases
+pub mod Over
+pub mod Header
