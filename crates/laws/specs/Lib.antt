@@ -4,6 +4,7 @@ pub mod Sets
 pub mod Keeping
 pub mod Smallest
 pub mod Choices
+pub mod Chosen
 pub mod Determined
 pub mod Loops
 pub mod Halving
