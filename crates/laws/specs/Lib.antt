@@ -12,3 +12,4 @@ pub mod Turns
 pub mod Cases
 pub mod Over
 pub mod Header
+pub mod Fitness

@@ -1,10 +1,16 @@
 // All that is read of a graph store: the checks of refusals 1, 2 and 3, its sections, its records, the key lookup and fit lists.
+mod fitness;
 mod header;
+mod lookup;
 mod parts;
 mod records;
 
+pub use fitness::label_count;
+pub use fitness::rule_broken;
 pub use header::draft_right;
 pub use header::header_right;
+pub use lookup::find;
+pub use lookup::list_part;
 pub use parts::after_edges;
 pub use parts::before_edges;
 pub use parts::constraint_count;
