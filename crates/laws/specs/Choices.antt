@@ -124,6 +124,7 @@ module _ (f : ℕ → ℕ) (n : ℕ) (hn : 0 < n) (mk : List ℕ → Row) (figur
     where
       test : ltb (mk (r .number ∷ c) .figure) (mk (x ∷ c) .figure) ≡ ltb (r .figure) (f x)
       test = rw (figure (r .number ∷ c), figure (x ∷ c), g .0) (factor n (product (map f c)) (f (r .number)) (f x) hn k)
+
       pick : (t : Bool) → mk ((cond t r (nodeOnly f x)) .number ∷ c) ≡ cond t (mk (r .number ∷ c)) (mk (x ∷ c))
       pick true = refl
       pick false = refl
