@@ -5,3 +5,6 @@ pub mod Halving
 pub mod Turns
 pub mod Cases
 pub mod Over
+pub mod Slices
+pub mod Merging
+pub mod Searching
