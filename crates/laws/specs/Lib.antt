@@ -8,3 +8,6 @@ pub mod Over
 pub mod Slices
 pub mod Merging
 pub mod Searching
+pub mod Each
+pub mod PatternLaws
+pub mod Table
