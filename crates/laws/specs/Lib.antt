@@ -7,7 +7,9 @@ pub mod Cases
 pub mod Over
 pub mod Slices
 pub mod Merging
+pub mod Members
 pub mod Searching
 pub mod Each
 pub mod PatternLaws
 pub mod Table
+pub mod Packing

@@ -10,6 +10,7 @@ use lib.Seq.{slice}
 use lib.Dec.{eqb, leb, ltb}
 use borrow.Author.Tests.{le-leb, lt-leb, lt-ltb, le-ltb, eq-eqb, ne-eqb}
 use Rattle.rules.specs.Lists.{halving, has, keep, From, Strict}
+use Rattle.laws.specs.Members.{keep-yes, keep-no}
 use Rattle.laws.specs.Halving.{halving-up, halving-down, halving-end}
 
 -- ---- a search ends where its test turns from true to false, if it turns once
@@ -162,14 +163,6 @@ unfolding standsIn
 stands-has x ws s = rw (lower-rank x ws s) (rank-has 0 x ws s)
 
 -- ---- parts
-keep-yes : (p : ℕ → Bool) (y : ℕ) (ys : List ℕ) → p y ≡ true → keep p (y ∷ ys) ≡ y ∷ keep p ys
-unfolding keep
-keep-yes p y ys e = rw e
-
-keep-no : (p : ℕ → Bool) (y : ℕ) (ys : List ℕ) → p y ≡ false → keep p (y ∷ ys) ≡ keep p ys
-unfolding keep
-keep-no p y ys e = rw e
-
 -- a word from a on and below b
 abbrev pub between : ℕ → ℕ → ℕ → Bool
 between a b w = leb a w && ltb w b
