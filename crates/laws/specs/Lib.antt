@@ -13,3 +13,11 @@ pub mod Cases
 pub mod Over
 pub mod Header
 pub mod Fitness
+pub mod Slices
+pub mod Merging
+pub mod Members
+pub mod Searching
+pub mod Each
+pub mod PatternLaws
+pub mod Table
+pub mod Packing
