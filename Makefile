@@ -7,4 +7,5 @@ run:
 
 test:
 	rt fmt --check
+	cargo test --release --offline --quiet --manifest-path tests/Cargo.toml
 	rt ci

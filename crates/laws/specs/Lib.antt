@@ -1,5 +1,11 @@
 -- Laws of lists, words and the rules, which the proofs of the functions cite. Assumes nothing.
+pub mod Signed
 pub mod Sets
+pub mod Keeping
+pub mod Smallest
+pub mod Choices
+pub mod Chosen
+pub mod Determined
 pub mod Loops
 pub mod Halving
 pub mod Turns
@@ -8,3 +14,11 @@ pub mod Over
 pub mod Header
 pub mod Fitness
 pub mod Parts
+pub mod Slices
+pub mod Merging
+pub mod Members
+pub mod Searching
+pub mod Each
+pub mod PatternLaws
+pub mod Table
+pub mod Packing

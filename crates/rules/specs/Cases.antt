@@ -11,14 +11,14 @@ use Rattle.rules.specs.Graph.{edgeIn, graphOf, storeGraph, neighbours, l
 use Rattle.rules.specs.Index.{keysOf, listOf, satisfies, directionsOf, entriesOf, groupsOf, indexOf, groupBytes, listBytes, entryBytes, entryTotal, storeIndex, exceeds, tooMany, storeOf}
 use Rattle.rules.specs.Pattern.{patternWords, patternHeader, conditionRight, patternNodeRight, patternEdgeAlone, patternEdgeBefore, patternEdgeRight, patternRight, meets, meetsBoth, patternEdge, joined}
 use Rattle.rules.specs.Match.{suits, alone, isMatch}
-use Rattle.rules.specs.Plan.{covered, figureOf, coveredWith, waysBy, figureBy, smaller, smallest, nodeWays, allWays, nodeRowsFrom, nodeRows, endsOf, otherEnd, endWays, edgeWays, listed, edgeRows, rowsOf, allCovered, bound, rowWords, planWords}
+use Rattle.rules.specs.Plan.{rowOf, chosenOf, covered, coveredWith, waysBy, figureBy, smaller, smallest, nodeWays, allWays, figuresAfter, nodeRowsFrom, nodeRows, figuresOf, endsOf, otherEnd, endWays, edgeWays, listed, edgeRows, rowsOf, edgeCovered, allCovered, bound, rowWords, planWords}
 use Rattle.rules.specs.Listing.{keyOf, precedes, equals, lowOf, foundAt, found, inside, idRight, labelRight, restRight, beyondRight, bitsRight, ruleBroken, entryList, readFound, readerOf, readKeys, entriesRead, nothing, keysFrom, candidatesOf, withNode, placeOf, bitSet, agrees, pairOf, pairsIn, withEdge, withRow, withRows, edgeAgrees, allowed, matchesFrom, hasPair, matchesOf}
 use Rattle.rules.specs.Answers.{Outcome, answered, refused, outcome, graphNumber, buildNumber, buildOutcome, same, admitNumber, admitOutcome, boundNumber, planNumber, planOutcome, gathered, cleared, readOutcome, listRefusal, listOutcome}
 use Rattle.rules.specs.World.{constraint, arc, plain, draft, worldNodes, worldEdges, worldConstraints, worldDraft, worldGroups, worldEntries, worldStore, pattern, patternA, patternTurned, twoFields, oneLocale, noLocale, unjoined, fieldOnly, twoLocales, clashing}
 
 -- to unfold this is to unfold every definition, so that the cases compute
 computes : Unit {0}
-unfolding flatMap u16At u32At encoded over signed range allFrom anyFrom foldFrom all any keep has sum product choices padded insert sortOf uniqAfter uniq setOf halving countsRight offsetsRight wordsRight headerRight draftRight nodeRight nodesRight edgeAlone edgeBefore edgeRight edgesRight recordsRight labelsOf labelAfter constraintAlone alike constraintRight constraintsRight header draftOf edgeIn graphOf storeGraph neighbours labelled keysOf listOf satisfies directionsOf entriesOf groupsOf indexOf groupBytes listBytes entryBytes entryTotal storeIndex exceeds tooMany storeOf patternWords patternHeader conditionRight patternNodeRight patternEdgeAlone patternEdgeBefore patternEdgeRight patternRight meets meetsBoth patternEdge joined suits alone isMatch covered figureOf coveredWith waysBy figureBy smaller smallest nodeWays allWays nodeRowsFrom nodeRows endsOf otherEnd endWays edgeWays listed edgeRows rowsOf allCovered bound rowWords planWords keyOf precedes equals lowOf foundAt found inside idRight labelRight restRight beyondRight bitsRight ruleBroken entryList readFound readerOf readKeys entriesRead nothing keysFrom candidatesOf withNode placeOf bitSet agrees pairOf pairsIn withEdge withRow withRows edgeAgrees allowed matchesFrom hasPair matchesOf answered refused outcome graphNumber buildNumber buildOutcome same admitNumber admitOutcome boundNumber planNumber planOutcome gathered cleared readOutcome listRefusal listOutcome draft worldNodes worldEdges worldConstraints worldDraft worldGroups worldEntries worldStore pattern patternA patternTurned twoFields oneLocale noLocale unjoined fieldOnly twoLocales clashing
+unfolding flatMap u16At u32At encoded over signed range allFrom anyFrom foldFrom all any keep has sum product choices padded insert sortOf uniqAfter uniq setOf halving countsRight offsetsRight wordsRight headerRight draftRight nodeRight nodesRight edgeAlone edgeBefore edgeRight edgesRight recordsRight labelsOf labelAfter constraintAlone alike constraintRight constraintsRight header draftOf edgeIn graphOf storeGraph neighbours labelled keysOf listOf satisfies directionsOf entriesOf groupsOf indexOf groupBytes listBytes entryBytes entryTotal storeIndex exceeds tooMany storeOf patternWords patternHeader conditionRight patternNodeRight patternEdgeAlone patternEdgeBefore patternEdgeRight patternRight meets meetsBoth patternEdge joined suits alone isMatch rowOf chosenOf covered coveredWith waysBy figureBy smaller smallest nodeWays allWays figuresAfter nodeRowsFrom nodeRows figuresOf endsOf otherEnd endWays edgeWays listed edgeRows rowsOf edgeCovered allCovered bound rowWords planWords keyOf precedes equals lowOf foundAt found inside idRight labelRight restRight beyondRight bitsRight ruleBroken entryList readFound readerOf readKeys entriesRead nothing keysFrom candidatesOf withNode placeOf bitSet agrees pairOf pairsIn withEdge withRow withRows edgeAgrees allowed matchesFrom hasPair matchesOf answered refused outcome graphNumber buildNumber buildOutcome same admitNumber admitOutcome boundNumber planNumber planOutcome gathered cleared readOutcome listRefusal listOutcome draft worldNodes worldEdges worldConstraints worldDraft worldGroups worldEntries worldStore pattern patternA patternTurned twoFields oneLocale noLocale unjoined fieldOnly twoLocales clashing
 computes = tt
 
 -- an outcome by its parts
@@ -130,16 +130,28 @@ list-turned : listOutcome worldStore patternTurned (nines 76) (nines 4) ≡ give
 unfolding computes
 list-turned = refl
 
+no-match-turned : isMatch (storeGraph worldStore) patternTurned (1 ∷ 3 ∷ 5 ∷ 4 ∷ []) ≡ false
+unfolding computes
+no-match-turned = refl
+
 -- *locale, format and two fields: two pattern nodes are never on one graph node
 list-two-fields : listOutcome worldStore twoFields (nines 76) (nines 8) ≡ gives 0 (0 ∷ 8 ∷ 6 ∷ 38 ∷ []) (nines 8) (zeros 76)
 unfolding computes
 list-two-fields = refl
+
+no-match-one-field : isMatch (storeGraph worldStore) twoFields (1 ∷ 3 ∷ 5 ∷ 5 ∷ []) ≡ false
+unfolding computes
+no-match-one-field = refl
 
 -- two locales: two pattern nodes may bear one label, and symmetric choices count separately
 list-two-locales : listOutcome worldStore twoLocales (nines 8) (nines 5)
     ≡ gives 0 (2 ∷ 4 ∷ 0 ∷ 4 ∷ []) (0 ∷ 1 ∷ 1 ∷ 0 ∷ 9 ∷ []) (zeros 8)
 unfolding computes
 list-two-locales = refl
+
+match-two-locales : isMatch (storeGraph worldStore) twoLocales (1 ∷ 0 ∷ []) ≡ true
+unfolding computes
+match-two-locales = refl
 
 -- *one locale node: rows 0 and 1
 list-locale : listOutcome worldStore oneLocale (nines 4) (nines 3) ≡ gives 0 (2 ∷ 2 ∷ 0 ∷ 2 ∷ []) (0 ∷ 1 ∷ 9 ∷ []) (zeros 4)

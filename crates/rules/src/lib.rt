@@ -35,6 +35,18 @@ pub struct Entry {
     pub directions: u8,
 }
 
+// A row of the plan: 0 for a node or 1 for an edge, its number, the fetched end (for a node, itself), the constraint, three chosen nodes (255 for none), the figure.
+pub struct Row {
+    pub kind: u32,
+    pub number: u32,
+    pub fetched: u32,
+    pub constraint: u32,
+    pub first: u32,
+    pub second: u32,
+    pub third: u32,
+    pub figure: u64,
+}
+
 // What building gives back: the number, and the length of the store.
 pub struct Built {
     pub number: u32,

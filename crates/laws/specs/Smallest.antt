@@ -1,0 +1,99 @@
+-- Laws of `smallest`: the smallest of two runs of ways, and the invariant of a loop that keeps the best way so far. Assumes nothing.
+use mathlib.Core.Path.{_≡_, refl, sym, ap, _∙_}
+use mathlib.Core.Bool.{Bool, true, false, cond, _&&_}
+use mathlib.Core.List.{List, [], _∷_, _++_, map, flatMap}
+use mathlib.Core.Option.{Option, some, none}
+use Prim.Native.Nat.{ℕ, suc, _+_, _-_, _≤_, _<_}
+use native.Mathlib.Decide.{decLe}
+use native.Mathlib.Nat.{sub-zero}
+use native.Mathlib.Omega.{arith}
+use lib.Dec.{ltb}
+use borrow.Author.Tests.{lt-ltb, le-ltb}
+use Rattle.rules.specs.Lists.{range, keep, all}
+use Rattle.rules.specs.Plan.{smaller, smallest}
+use Rattle.rules.specs.declared.Row.{Row}
+
+-- the better of two: the second only if its figure is smaller
+abbrev pub better : Option Row → Option Row → Option Row
+better none o = o
+better (some r) o = some (smaller r o)
+
+smaller-some : (x y z : Row) → smaller x (some (smaller y (some z))) ≡ smaller (smaller x (some y)) (some z)
+unfolding smaller
+smaller-some x y z = go (decLe (y .figure) (z .figure)) (decLe (x .figure) (y .figure)) (decLe (x .figure) (z .figure))
+  where
+    go : Dec (y .figure ≤ z .figure) → Dec (x .figure ≤ y .figure) → Dec (x .figure ≤ z .figure)
+        → smaller x (some (smaller y (some z))) ≡ smaller (smaller x (some y)) (some z)
+    go (yes a) (yes b) c = rw (le-ltb (z .figure) (y .figure) a, le-ltb (y .figure) (x .figure) b, le-ltb (z .figure) (x .figure) (omega arith))
+    go (yes a) (no b) c = rw (le-ltb (z .figure) (y .figure) a, lt-ltb (y .figure) (x .figure) (omega arith), le-ltb (z .figure) (y .figure) a)
+    go (no a) (yes b) (yes c) = rw (lt-ltb (z .figure) (y .figure) (omega arith), le-ltb (y .figure) (x .figure) b, le-ltb (z .figure) (x .figure) c)
+    go (no a) (yes b) (no c) = rw (lt-ltb (z .figure) (y .figure) (omega arith), le-ltb (y .figure) (x .figure) b, lt-ltb (z .figure) (x .figure) (omega arith))
+    go (no a) (no b) c = rw (lt-ltb (z .figure) (y .figure) (omega arith), lt-ltb (y .figure) (x .figure) (omega arith), lt-ltb (z .figure) (x .figure) (omega arith), lt-ltb (z .figure) (y .figure) (omega arith))
+
+pub better-assoc : (a b c : Option Row) → better a (better b c) ≡ better (better a b) c
+unfolding smaller
+better-assoc none b c = refl
+better-assoc (some x) none c = refl
+better-assoc (some x) (some y) none = refl
+better-assoc (some x) (some y) (some z) = ap some (smaller-some x y z)
+
+pub better-none : (a : Option Row) → better a none ≡ a
+unfolding smaller
+better-none none = refl
+better-none (some x) = refl
+
+-- the smallest of two runs is the better of their smallest
+pub smallest-append : (xs ys : List Row) → smallest (xs ++ ys) ≡ better (smallest xs) (smallest ys)
+unfolding smallest
+smallest-append [] ys = refl
+smallest-append (x ∷ xs) ys =
+    ap (λ o. some (smaller x o)) (smallest-append xs ys) ∙ better-assoc (some x) (smallest xs) (smallest ys)
+
+-- a loop over 0, 1, .., n - 1 that takes the better way each time: at k, what is left decides the whole
+pub record BestLeft (f : ℕ → List Row) (n k : ℕ) (best whole : Option Row) : Type 0 where
+  pub within : k ≤ n
+  pub rest : whole ≡ better best (smallest (flatMap f (range k (n - k))))
+
+pub best-start : (f : ℕ → List Row) (n : ℕ) → BestLeft f n 0 none (smallest (flatMap f (range 0 n)))
+best-start f n = record { within = omega arith; rest = rw sub-zero }
+
+module _ {f : ℕ → List Row} {n k : ℕ} {best whole : Option Row} (inv : BestLeft f n k best whole) where
+  pub best-next : (next : Option Row) → k < n → next ≡ better best (smallest (f k)) → BestLeft f n (k + 1) next whole
+  unfolding range flatMap
+  best-next next h e =
+      let m : n - k ≡ suc (n - (k + 1)) = omega arith in
+      record {
+        within = omega arith;
+        rest =
+            inv .rest
+            ∙ rw m (ap (better best) (smallest-append (f k) (flatMap f (range (k + 1) (n - (k + 1)))))
+            ∙ better-assoc best (smallest (f k)) (smallest (flatMap f (range (k + 1) (n - (k + 1)))))
+            ∙ rw (sym e));
+      }
+
+  pub best-done : n ≤ k → best ≡ whole
+  unfolding range flatMap smallest
+  best-done h =
+      let m : n - k ≡ 0 = omega arith in
+      sym (inv .rest ∙ rw m (better-none best))
+
+-- ---- kept elements, one by one
+pub flat-keep : {B : Type 0} (f : ℕ → List B) (p : ℕ → Bool) (xs : List ℕ) → flatMap f (keep p xs) ≡ flatMap (λ x. cond (p x) (f x) []) xs
+unfolding flatMap keep
+flat-keep f p [] = refl
+flat-keep f p (x ∷ xs) = go (p x) (flat-keep f p xs)
+  where
+    go : (t : Bool) → flatMap f (keep p xs) ≡ flatMap (λ x. cond (p x) (f x) []) xs
+        → flatMap f (cond t (x ∷ []) [] ++ keep p xs) ≡ cond t (f x) [] ++ flatMap (λ x. cond (p x) (f x) []) xs
+    go true e = ap (λ l. f x ++ l) e
+    go false e = e
+
+pub map-keep : {B : Type 0} (f : ℕ → B) (p : ℕ → Bool) (xs : List ℕ) → map f (keep p xs) ≡ flatMap (λ x. cond (p x) (f x ∷ []) []) xs
+unfolding flatMap keep
+map-keep f p [] = refl
+map-keep f p (x ∷ xs) = go (p x) (map-keep f p xs)
+  where
+    go : (t : Bool) → map f (keep p xs) ≡ flatMap (λ x. cond (p x) (f x ∷ []) []) xs
+        → map f (cond t (x ∷ []) [] ++ keep p xs) ≡ cond t (f x ∷ []) [] ++ flatMap (λ x. cond (p x) (f x ∷ []) []) xs
+    go true e = ap (λ l. f x ∷ l) e
+    go false e = e
