@@ -22,3 +22,4 @@ pub mod Each
 pub mod PatternLaws
 pub mod Table
 pub mod Packing
+pub mod Covering
