@@ -21,3 +21,5 @@ pub mod Each
 pub mod PatternLaws
 pub mod Table
 pub mod Packing
+pub mod Parts
+pub mod Matches
