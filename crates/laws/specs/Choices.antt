@@ -43,10 +43,10 @@ positive n h = go (decLe 1 n)
 
 -- ---- what the best node of a list is: its figure is its own, and not 0 where none is
 module _ (f : ℕ → ℕ) where
-  abbrev Good : Row → Type 0
+  abbrev pub Good : Row → Type 0
   Good r = (r .figure ≡ f (r .number)) × (0 < f (r .number))
 
-  abbrev GoodIf : Option Row → Type 0
+  abbrev pub GoodIf : Option Row → Type 0
   GoodIf none = Unit {0}
   GoodIf (some r) = Good r
 

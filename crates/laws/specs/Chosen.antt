@@ -68,7 +68,7 @@ abbrev pub narrow : ℕ → List ℕ → List ℕ
 narrow o xs = cond (has o xs) (o ∷ []) xs
 
 -- o stands in one of the lists at most, and once there
-pub Once : ℕ → List (List ℕ) → Type 0
+unfoldable pub Once : ℕ → List (List ℕ) → Type 0
 Once o [] = Unit {0}
 Once o (xs ∷ rest) = (has o xs ≡ true → (any (has o) rest ≡ false) × (keep (eqb o) xs ≡ o ∷ [])) × Once o rest
 

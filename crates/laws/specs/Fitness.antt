@@ -7,13 +7,14 @@ use native.Mathlib.Nat.{div-one}
 use native.Mathlib.Omega.{arith}
 use lib.Dec.{ltb, leb, eqb}
 use lib.ListN.{length, length-append, length-take, length-drop}
-use borrow.Author.Tests.{lt-ltb, le-ltb, ltb-true, leb-true, not-true, not-false}
+use borrow.Author.Tests.{lt-ltb, le-ltb, ltb-true, ltb-false, leb-true, not-true, not-false}
 use Rattle.rules.specs.Words.{u32At}
 use Rattle.rules.specs.Lists.{allFrom, foldFrom, keep}
 use Rattle.rules.specs.Store.{nodesIn, entriesIn, labelsOf}
-use Rattle.rules.specs.Listing.{inside, listPart, bitsFor, idRight, labelRight, restRight, beyondRight, bitsRight}
+use Rattle.rules.specs.Listing.{inside, listPart, bitsFor, idRight, labelRight, restRight, beyondRight, bitsRight, ruleBroken}
 use Rattle.rules.specs.declared.Constraint.{Constraint}
 use Rattle.laws.specs.Cases.{first-holds, second-holds}
+use Rattle.laws.specs.Each.{all-each}
 
 -- the first of rules 3 to 7 that fails, or `fit`
 abbrev pub firstFailed : Bool → Bool → Bool → Bool → Bool → ℕ → ℕ
@@ -210,3 +211,40 @@ module _ (n : ℕ) where
 -- a list that a group names has its entries
 pub list-long : (list entries : List ℕ) (start count : ℕ) → list ≡ listPart entries start count → start * 8 + count * 8 ≤ length entries → count * 8 ≤ length list
 list-long list entries start count q h = rw q (simp (length-take, length-drop) (omega arith))
+
+-- ---- what a fit list gives
+test-passed : (t : Bool) (n x : ℕ) → cond t (suc n) x ≡ 0 → t ≡ false
+test-passed true n x h =
+    let no : ⊥ = omega (arith, h) in
+    absurd no
+test-passed false n x h = refl
+
+rest-passed : (t : Bool) (n x : ℕ) → cond t (suc n) x ≡ 0 → x ≡ 0
+rest-passed true n x h = omega (arith, h)
+rest-passed false n x h = h
+
+module _ (nodes : List ℕ) (c : Constraint) (entries : List ℕ) (start count : ℕ) (fit : ruleBroken nodes c entries start count ≡ 0) where
+  -- it is inside the entries
+  pub fit-inside : start * 8 + count * 8 ≤ length entries
+  unfolding ruleBroken
+  fit-inside = inside-room entries start count (inside entries start count) refl (test-passed (not (inside entries start count)) 0 _ fit)
+
+  after-inside : cond (ltb (c .most) count) 2 (listRule nodes c (length (labelsOf c)) (listPart entries start count) count 0) ≡ 0
+  unfolding ruleBroken listRule
+  after-inside = rest-passed (not (inside entries start count)) 0 _ fit
+
+  -- it has at most N entries
+  pub fit-most : count ≤ c .most
+  fit-most = ltb-false _ _ (test-passed (ltb (c .most) count) 1 (listRule nodes c (length (labelsOf c)) (listPart entries start count) count 0) after-inside)
+
+  ids-right : allFrom (idRight nodes (listPart entries start count)) 0 count ≡ true
+  unfolding listRule
+  ids-right =
+      let own : listRule nodes c (length (labelsOf c)) (listPart entries start count) count 0 ≡ 0 = rest-passed (ltb (c .most) count) 1 _ after-inside in
+      not-false _ (test-passed (not (allFrom (idRight nodes (listPart entries start count)) 0 count)) 2 _ own)
+
+  -- the id of each entry is a node's
+  pub fit-node : (i : ℕ) → i < count → u32At (listPart entries start count) (i * 8) < nodesIn nodes
+  fit-node i h =
+      let list = listPart entries start count in
+      id-below nodes list i (idRight nodes list i) refl (ap not (all-each (idRight nodes list) 0 count ids-right i (omega arith) (omega arith)))

@@ -88,7 +88,7 @@ draft-bare s right =
     let both : (g && e) ≡ true = second-holds (headerRight s) (g && e) right in
     (eqb-true _ _ (first-holds g e both), eqb-true _ _ (second-holds g e both))
 
--- as a caller that tested the header has it: r is what the test gave
+-- what the functions that lend a part ask, as a caller that tested the header has it: r is what the test gave
 module _ (s : List ℕ) (r : Bool) (q : r ≡ headerRight s) (passed : not r ≡ false) where
   pub passed-header : headerRight s ≡ true
   passed-header = sym q ∙ not-false r passed
@@ -96,5 +96,17 @@ module _ (s : List ℕ) (r : Bool) (q : r ≡ headerRight s) (passed : not r ≡
   pub passed-long : 48 ≤ length s
   passed-long = header-long s passed-header
 
-  pub passed-ends : endAt s ≡ length s
-  passed-ends = header-ends s passed-header
+  pub passed-nodes : edgesAt s ≤ length s
+  passed-nodes = omega (arith, header-ends s passed-header)
+
+  pub passed-edges : constraintsAt s ≤ length s
+  passed-edges = omega (arith, header-ends s passed-header)
+
+  pub passed-constraints : groupsAt s ≤ length s
+  passed-constraints = omega (arith, header-ends s passed-header)
+
+  pub passed-groups : entriesAt s ≤ length s
+  passed-groups = omega (arith, header-ends s passed-header)
+
+  pub passed-entries : endAt s ≤ length s
+  passed-entries = omega (arith, header-ends s passed-header)

@@ -13,6 +13,7 @@ pub mod Cases
 pub mod Over
 pub mod Header
 pub mod Fitness
+pub mod Parts
 pub mod Slices
 pub mod Merging
 pub mod Members
@@ -21,5 +22,6 @@ pub mod Each
 pub mod PatternLaws
 pub mod Table
 pub mod Packing
-pub mod Parts
+pub mod Covering
+pub mod PartMembers
 pub mod Matches

@@ -1,55 +1,145 @@
--- Parts of a list, their elements and their members. Assumes nothing.
-use native.Mathlib.Omega.{arith}
-use mathlib.Core.Path.{_≡_, sym, ap, _∙_}
-use mathlib.Core.Bool.{true}
+-- Reading through the parts of a store is reading through the whole, and a right header says how long each part is. Assumes nothing.
+use mathlib.Core.Path.{_≡_, refl, sym, ap, _∙_}
+use mathlib.Core.Bool.{Bool, true}
 use mathlib.Core.List.{List, [], _∷_}
-use Prim.Native.Nat.{ℕ, zero, suc, _+_, _-_, _≤_, _<_}
-use lib.ListN.{length, take, drop, getD, length-take, length-drop}
-use lib.Seq.{slice, getD-take, getD-drop, take-nil, take-take, drop-drop}
-use Rattle.rules.specs.Words.{part}
-use Rattle.rules.specs.Lists.{has}
-use Rattle.laws.specs.Slices.{drop-next}
-use Rattle.laws.specs.Sets.{first-has}
-use Rattle.laws.specs.Keeping.{later-has}
+use Prim.Native.Nat.{ℕ, zero, suc, _+_, _-_, _*_, _/_, _≤_, _<_}
+use native.Mathlib.Nat.{sub-zero, zero-sub, add-zero, zero-add, add-assoc}
+use native.Mathlib.Omega.{arith}
+use lib.ListN.{length, getD, take, drop, length-take, length-drop}
+use lib.Seq.{getD-take, getD-drop, take-take, drop-drop, take-nil, drop-nil}
+use Rattle.rules.specs.Words.{u16At, u32At, part}
+use Rattle.rules.specs.Store.{nodeCount, edgeCount, constraintCount, groupCount, entryCount, edgesAt, constraintsAt, groupsAt, entriesAt, endAt}
+use Rattle.rules.specs.Store.{nodePart, edgePart, constraintPart, groupPart, entryPart, beforeEdges, afterEdges}
+use Rattle.rules.specs.Store.{nodesBefore, constraintsAfter, groupsAfter, entriesAfter, nodesIn, edgesIn, constraintsIn, groupsIn, entriesIn, headerRight}
+use Rattle.laws.specs.Header.{header-long, header-ends}
 
--- the next element of a part, in the words of a loop
-pub part-next : (l : List ℕ) (i e : ℕ) → i < e → e ≤ length l → part l i e ≡ getD l i 0 ∷ part l (i + 1) e
-part-next l i e h k =
-    let n : e - i ≡ suc (e - (i + 1)) = omega arith in
-    let d : drop i l ≡ getD l i 0 ∷ drop (i + 1) l = drop-next l i (omega arith) in
-    rw (n, d)
+-- ---- any part of any bytes
+pub length-part : (s : List ℕ) (a e : ℕ) → e ≤ length s → length (part s a e) ≡ e - a
+length-part s a e h = simp (length-take, length-drop) (omega arith)
 
-pub part-none : (l : List ℕ) (i e : ℕ) → e ≤ i → part l i e ≡ []
-part-none l i e h = let n : e - i ≡ 0 = omega arith in rw n
+pub get-part : (s : List ℕ) (a e i : ℕ) → a + i < e → getD (part s a e) i 0 ≡ getD s (a + i) 0
+get-part s a e i h =
+    let inside : i < e - a = omega arith in
+    getD-take (e - a) (drop a s) i 0 inside ∙ getD-drop a s i 0
 
-pub length-part : (l : List ℕ) (a e : ℕ) → e ≤ length l → length (part l a e) ≡ e - a
-length-part l a e h = simp (length-take, length-drop) (omega arith)
+pub u16-part : (s : List ℕ) (a e i : ℕ) → a + i + 2 ≤ e → u16At (part s a e) i ≡ u16At s (a + i)
+unfolding u16At
+u16-part s a e i h = rw (get-part s a e i (omega arith), get-part s a e (i + 1) (omega arith)) (simp add-assoc)
 
-pub part-at : (l : List ℕ) (a e i : ℕ) → i < e - a → getD (part l a e) i 0 ≡ getD l (a + i) 0
-part-at l a e i h = getD-take (e - a) (drop a l) i 0 h ∙ getD-drop a l i 0
+pub u32-part : (s : List ℕ) (a e i : ℕ) → a + i + 4 ≤ e → u32At (part s a e) i ≡ u32At s (a + i)
+unfolding u32At
+u32-part s a e i h =
+    rw (get-part s a e i (omega arith), get-part s a e (i + 1) (omega arith), get-part s a e (i + 2) (omega arith), get-part s a e (i + 3) (omega arith))
+    (simp add-assoc)
 
-take-drop : (lo n : ℕ) (l : List ℕ) → take n (drop lo l) ≡ drop lo (take (lo + n) l)
-take-drop zero n l = let e : 0 + n ≡ n = omega arith in rw e
-take-drop (suc lo) n [] = take-nil n ∙ sym (ap (drop (suc lo)) (take-nil (suc lo + n)))
-take-drop (suc lo) n (x ∷ l) =
-    let e : suc lo + n ≡ suc (lo + n) = omega arith in
-    take-drop lo n l ∙ rw e
+drop-take : (b n : ℕ) (l : List ℕ) → drop b (take n l) ≡ take (n - b) (drop b l)
+drop-take zero n l = rw sub-zero
+drop-take (suc b) zero l = rw zero-sub (sym (drop-nil (suc b)))
+drop-take (suc b) (suc n) [] = sym (take-nil (suc n - suc b))
+drop-take (suc b) (suc n) (x ∷ l) =
+    let e : suc n - suc b ≡ n - b = omega arith in
+    drop-take b n l ∙ rw e
 
--- a part of a part
-pub part-part : (l : List ℕ) (a e lo hi : ℕ) → lo ≤ hi → hi ≤ e - a → part l (a + lo) (a + hi) ≡ slice lo hi (part l a e)
-part-part l a e lo hi h k =
-    let n : a + hi - (a + lo) ≡ hi - lo = omega arith in
-    let m : lo + (hi - lo) ≡ hi = omega arith in
-    rw (n, take-take hi (e - a) (drop a l) k, ← drop-drop lo a l) (take-drop lo (hi - lo) (drop a l) ∙ rw m)
+-- a part of a part is a part of the whole
+pub part-part : (s : List ℕ) (a e b f : ℕ) → a + f ≤ e → b ≤ f → part (part s a e) b f ≡ part s (a + b) (a + f)
+part-part s a e b f h o =
+    let left : f - b ≤ e - a - b = omega arith in
+    let size : f - b ≡ (a + f) - (a + b) = omega arith in
+    rw (drop-take b (e - a) (drop a s), drop-drop, take-take _ _ _ left, size)
 
--- an element is a member
-pub has-get : (l : List ℕ) (i : ℕ) → i < length l → has (getD l i 0) l ≡ true
-has-get [] i h = absurd (omega arith)
-has-get (y ∷ l) zero h = first-has y l
-has-get (y ∷ l) (suc i) h = later-has y (getD l i 0) l (has-get l i (omega arith))
+-- ---- the parts before and after the edges: the counts and the sections found in them are the store's own
+module _ (s : List ℕ) where
+  before-word : (i : ℕ) → i + 4 ≤ 48 → u32At (beforeEdges s) i ≡ u32At s i
+  before-word i h = u32-part s 0 (edgesAt s) i (omega arith) ∙ rw zero-add
 
-pub part-has : (l : List ℕ) (a e k : ℕ) → a ≤ k → k < e → e ≤ length l → has (getD l k 0) (part l a e) ≡ true
-part-has l a e k h j m =
-    let n : a + (k - a) ≡ k = omega arith in
-    let x : getD (part l a e) (k - a) 0 ≡ getD l k 0 = part-at l a e (k - a) (omega arith) ∙ rw n in
-    rw x at (has-get (part l a e) (k - a) (omega (arith, length-part l a e m)))
+  pub before-nodes : nodeCount (beforeEdges s) ≡ nodeCount s
+  before-nodes = before-word 4 (omega arith)
+
+  pub before-edges : edgeCount (beforeEdges s) ≡ edgeCount s
+  before-edges = before-word 8 (omega arith)
+
+  pub before-constraints : constraintCount (beforeEdges s) ≡ constraintCount s
+  before-constraints = before-word 12 (omega arith)
+
+  pub before-groups : groupCount (beforeEdges s) ≡ groupCount s
+  before-groups = before-word 16 (omega arith)
+
+  pub before-entries : entryCount (beforeEdges s) ≡ entryCount s
+  before-entries = before-word 20 (omega arith)
+
+  pub nodes-before : nodesBefore (beforeEdges s) ≡ nodePart s
+  nodes-before =
+      ap (λ n. part (beforeEdges s) 48 (48 + n * 8)) before-nodes
+      ∙ part-part s 0 (edgesAt s) 48 (edgesAt s) (omega arith) (omega arith)
+      ∙ rw zero-add
+
+  pub constraints-after : constraintsAfter (beforeEdges s) (afterEdges s) ≡ constraintPart s
+  constraints-after =
+      ap (λ k. part (afterEdges s) 0 (k * 12)) before-constraints
+      ∙ part-part s (constraintsAt s) (endAt s) 0 (constraintCount s * 12) (omega arith) (omega arith)
+      ∙ rw add-zero
+
+  pub groups-after : groupsAfter (beforeEdges s) (afterEdges s) ≡ groupPart s
+  groups-after =
+      let at = constraintCount s * 12 in
+      let end = at + groupCount s * 24 in
+      let ends : constraintsAt s + end ≡ entriesAt s = omega arith in
+      ap (λ k. part (afterEdges s) (k * 12) (k * 12 + groupCount (beforeEdges s) * 24)) before-constraints
+      ∙ ap (λ g. part (afterEdges s) at (at + g * 24)) before-groups
+      ∙ part-part s (constraintsAt s) (endAt s) at end (omega arith) (omega arith)
+      ∙ ap (part s (groupsAt s)) ends
+
+  pub entries-after : entriesAfter (beforeEdges s) (afterEdges s) ≡ entryPart s
+  entries-after =
+      let k = constraintCount s * 12 in
+      let at = k + groupCount s * 24 in
+      let end = at + entryCount s * 8 in
+      let starts : constraintsAt s + at ≡ entriesAt s = omega arith in
+      let ends : constraintsAt s + end ≡ endAt s = omega arith in
+      ap (λ k. part (afterEdges s) (k * 12 + groupCount (beforeEdges s) * 24) (k * 12 + groupCount (beforeEdges s) * 24 + entryCount (beforeEdges s) * 8)) before-constraints
+      ∙ ap (λ g. part (afterEdges s) (k + g * 24) (k + g * 24 + entryCount (beforeEdges s) * 8)) before-groups
+      ∙ ap (λ e. part (afterEdges s) at (at + e * 8)) before-entries
+      ∙ part-part s (constraintsAt s) (endAt s) at end (omega arith) (omega arith)
+      ∙ ap (λ a. part s a (constraintsAt s + end)) starts
+      ∙ ap (part s (entriesAt s)) ends
+
+-- ---- how long the parts are, and how many records each section has
+module _ (s : List ℕ) (right : headerRight s ≡ true) where
+  length-of : (a e : ℕ) → e ≤ endAt s → length (part s a e) ≡ e - a
+  length-of a e h = length-part s a e (omega (arith, header-ends s right))
+
+  pub before-length : length (beforeEdges s) ≡ edgesAt s
+  before-length = length-of 0 (edgesAt s) (omega arith) ∙ omega arith
+
+  pub after-length : length (afterEdges s) ≡ constraintCount s * 12 + groupCount s * 24 + entryCount s * 8
+  after-length = length-of (constraintsAt s) (endAt s) (omega arith) ∙ omega arith
+
+  pub nodes-length : length (nodePart s) ≡ nodeCount s * 8
+  nodes-length = length-of 48 (edgesAt s) (omega arith) ∙ omega arith
+
+  pub edges-length : length (edgePart s) ≡ edgeCount s * 8
+  edges-length = length-of (edgesAt s) (constraintsAt s) (omega arith) ∙ omega arith
+
+  pub constraints-length : length (constraintPart s) ≡ constraintCount s * 12
+  constraints-length = length-of (constraintsAt s) (groupsAt s) (omega arith) ∙ omega arith
+
+  pub groups-length : length (groupPart s) ≡ groupCount s * 24
+  groups-length = length-of (groupsAt s) (entriesAt s) (omega arith) ∙ omega arith
+
+  pub entries-length : length (entryPart s) ≡ entryCount s * 8
+  entries-length = length-of (entriesAt s) (endAt s) (omega arith) ∙ omega arith
+
+  pub nodes-in : nodesIn (nodePart s) ≡ nodeCount s
+  nodes-in = omega (arith, nodes-length)
+
+  pub edges-in : edgesIn (edgePart s) ≡ edgeCount s
+  edges-in = omega (arith, edges-length)
+
+  pub constraints-in : constraintsIn (constraintPart s) ≡ constraintCount s
+  constraints-in = omega (arith, constraints-length)
+
+  pub groups-in : groupsIn (groupPart s) ≡ groupCount s
+  groups-in = omega (arith, groups-length)
+
+  pub entries-in : entriesIn (entryPart s) ≡ entryCount s
+  entries-in = omega (arith, entries-length)

@@ -1,29 +1,32 @@
-// All that is read of a graph store: the checks of refusals 1, 2 and 3, its sections, its records, the key lookup and fit lists.
-mod fitness;
+// All that is read of a graph store: the checks of refusals 1, 2 and 3, its sections, its records, and the key lookup.
 mod header;
-mod lookup;
 mod parts;
 mod records;
 
-pub use fitness::label_count;
-pub use fitness::rule_broken;
 pub use header::draft_right;
 pub use header::header_right;
 pub use lookup::find;
+pub use lookup::label_count;
 pub use lookup::list_part;
+pub use lookup::rule_broken;
 pub use parts::after_edges;
 pub use parts::before_edges;
 pub use parts::constraint_count;
 pub use parts::constraint_part;
 pub use parts::constraints_after;
+pub use parts::constraints_at;
 pub use parts::edge_count;
 pub use parts::edge_part;
+pub use parts::edges_at;
+pub use parts::end_at;
 pub use parts::entries_after;
+pub use parts::entries_at;
 pub use parts::entry_count;
 pub use parts::entry_part;
 pub use parts::group_count;
 pub use parts::group_part;
 pub use parts::groups_after;
+pub use parts::groups_at;
 pub use parts::node_count;
 pub use parts::node_part;
 pub use parts::nodes_before;

@@ -1,6 +1,6 @@
-// The sections of a store, and the parts before and after its edges: all lent on, none copied.
+// The counts and offsets of a store, its sections, and the parts before and after its edges: all lent on, none copied.
 ghost use mathlib.Core.Path.{_≡_};
-ghost use Prim.Native.Nat.{_+_, _*_, _≤_};
+ghost use Prim.Native.Nat.{_+_, _*_, _≤_, _<_};
 ghost use lib.ListN.{length};
 ghost use Rattle.rules.specs.Store.{nodeCount, edgeCount, constraintCount, groupCount, entryCount};
 ghost use Rattle.rules.specs.Store.{edgesAt, constraintsAt, groupsAt, entriesAt, endAt};
@@ -47,53 +47,44 @@ pub fn entry_count(s: &[u8]) -> u32
     words::u32_at(s, 20)
 }
 
-// Where the edges start.
-fn edges_at(s: &[u8]) -> usize
+// Where the edges start. No offset wraps: each contract bounds it by a multiple of 2^32.
+pub fn edges_at(s: &[u8]) -> usize
     requires { ⌜ 48 ≤ length (now s) ⌝ }
-    ensures { λ r. ⌜ r ≡ edgesAt (now (s .entry)) ⌝ }
+    ensures { λ r. ⌜ (r ≡ edgesAt (now (s .entry))) × (r < 16 * 4294967296) ⌝ }
 {
     48 + node_count(s) as usize * 8
 }
 
 // Where the constraints start.
-fn constraints_at(s: &[u8]) -> usize
+pub fn constraints_at(s: &[u8]) -> usize
     requires { ⌜ 48 ≤ length (now s) ⌝ }
-    ensures { λ r. ⌜ r ≡ constraintsAt (now (s .entry)) ⌝ }
+    ensures { λ r. ⌜ (r ≡ constraintsAt (now (s .entry))) × (r < 24 * 4294967296) ⌝ }
 {
-    48 + node_count(s) as usize * 8 + edge_count(s) as usize * 8
+    edges_at(s) + edge_count(s) as usize * 8
 }
 
 // Where the groups start.
-fn groups_at(s: &[u8]) -> usize
+pub fn groups_at(s: &[u8]) -> usize
     requires { ⌜ 48 ≤ length (now s) ⌝ }
-    ensures { λ r. ⌜ r ≡ groupsAt (now (s .entry)) ⌝ }
+    ensures { λ r. ⌜ (r ≡ groupsAt (now (s .entry))) × (r < 36 * 4294967296) ⌝ }
 {
-    let n = node_count(s) as usize;
-    let m = edge_count(s) as usize;
-    48 + n * 8 + m * 8 + constraint_count(s) as usize * 12
+    constraints_at(s) + constraint_count(s) as usize * 12
 }
 
 // Where the entries start.
-fn entries_at(s: &[u8]) -> usize
+pub fn entries_at(s: &[u8]) -> usize
     requires { ⌜ 48 ≤ length (now s) ⌝ }
-    ensures { λ r. ⌜ r ≡ entriesAt (now (s .entry)) ⌝ }
+    ensures { λ r. ⌜ (r ≡ entriesAt (now (s .entry))) × (r < 60 * 4294967296) ⌝ }
 {
-    let n = node_count(s) as usize;
-    let m = edge_count(s) as usize;
-    let k = constraint_count(s) as usize;
-    48 + n * 8 + m * 8 + k * 12 + group_count(s) as usize * 24
+    groups_at(s) + group_count(s) as usize * 24
 }
 
 // Where the entries end.
-fn end_at(s: &[u8]) -> usize
+pub fn end_at(s: &[u8]) -> usize
     requires { ⌜ 48 ≤ length (now s) ⌝ }
-    ensures { λ r. ⌜ r ≡ endAt (now (s .entry)) ⌝ }
+    ensures { λ r. ⌜ (r ≡ endAt (now (s .entry))) × (r < 68 * 4294967296) ⌝ }
 {
-    let n = node_count(s) as usize;
-    let m = edge_count(s) as usize;
-    let k = constraint_count(s) as usize;
-    let g = group_count(s) as usize;
-    48 + n * 8 + m * 8 + k * 12 + g * 24 + entry_count(s) as usize * 8
+    entries_at(s) + entry_count(s) as usize * 8
 }
 
 // The nodes of a store.

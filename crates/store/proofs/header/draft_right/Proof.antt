@@ -1,7 +1,7 @@
 -- `store::header::draft_right` meets its contract. Assumes nothing.
+use Rattle.rules.specs.Store.{draftRight}
 use Rattle.laws.specs.Cases.{decide}
 use Rattle.laws.specs.Header.{passed-long}
-use Rattle.rules.specs.Store.{draftRight}
 use Rattle.store.proofs.header.draft_right.Statement.{statement}
 use Rattle.store.proofs.header.draft_right.Tie as tie
 

@@ -1,6 +1,6 @@
 -- `store::header::header_right` meets its contract. Assumes nothing.
-use Rattle.laws.specs.Cases.{decide}
 use Rattle.rules.specs.Store.{headerRight}
+use Rattle.laws.specs.Cases.{decide}
 use Rattle.store.proofs.header.header_right.Statement.{statement}
 use Rattle.store.proofs.header.header_right.Tie as tie
 

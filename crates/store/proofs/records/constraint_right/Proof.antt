@@ -1,6 +1,6 @@
 -- `store::records::constraint_right` meets its contract. Assumes nothing.
-use Rattle.laws.specs.Cases.{decide}
 use Rattle.rules.specs.Store.{constraintRight}
+use Rattle.laws.specs.Cases.{decide}
 use Rattle.store.proofs.records.constraint_right.Statement.{statement}
 use Rattle.store.proofs.records.constraint_right.Tie as tie
 

@@ -1,9 +1,8 @@
 -- `store::records::constraints_right` meets its contract. Invariant: what is left decides the whole. Assumes nothing.
 use Prim.Native.Nat.{_-_}
-use Rattle.rules.specs.Store.{constraintRight}
+use Rattle.rules.specs.Store.{constraintRight, constraintsRight}
 use Rattle.laws.specs.Loops.{AllLeft}
 use Rattle.laws.specs.Turns.{turns}
-use Rattle.rules.specs.Store.{constraintsRight}
 use Rattle.store.proofs.records.constraints_right.Statement.{statement}
 use Rattle.store.proofs.records.constraints_right.Tie as tie
 

@@ -1,6 +1,6 @@
 -- `store::records::edge_right` meets its contract. Assumes nothing.
-use Rattle.laws.specs.Cases.{decide}
 use Rattle.rules.specs.Store.{edgeRight}
+use Rattle.laws.specs.Cases.{decide}
 use Rattle.store.proofs.records.edge_right.Statement.{statement}
 use Rattle.store.proofs.records.edge_right.Tie as tie
 

@@ -1,9 +1,8 @@
 -- `store::records::edges_right` meets its contract. Invariant: what is left decides the whole. Assumes nothing.
 use Prim.Native.Nat.{_-_}
-use Rattle.rules.specs.Store.{edgeRight}
+use Rattle.rules.specs.Store.{edgeRight, edgesRight}
 use Rattle.laws.specs.Loops.{AllLeft}
 use Rattle.laws.specs.Turns.{turns}
-use Rattle.rules.specs.Store.{edgesRight}
 use Rattle.store.proofs.records.edges_right.Statement.{statement}
 use Rattle.store.proofs.records.edges_right.Tie as tie
 

@@ -1,9 +1,8 @@
 -- `store::records::nodes_right` meets its contract. Invariant: what is left decides the whole. Assumes nothing.
 use Prim.Native.Nat.{_-_}
-use Rattle.rules.specs.Store.{nodeRight}
+use Rattle.rules.specs.Store.{nodeRight, nodesRight}
 use Rattle.laws.specs.Loops.{AllLeft}
 use Rattle.laws.specs.Turns.{turns}
-use Rattle.rules.specs.Store.{nodesRight}
 use Rattle.store.proofs.records.nodes_right.Statement.{statement}
 use Rattle.store.proofs.records.nodes_right.Tie as tie
 

@@ -1,6 +1,6 @@
 -- `store::records::records_right` meets its contract. Assumes nothing.
-use Rattle.laws.specs.Cases.{decide}
 use Rattle.rules.specs.Store.{recordsRight}
+use Rattle.laws.specs.Cases.{decide}
 use Rattle.store.proofs.records.records_right.Statement.{statement}
 use Rattle.store.proofs.records.records_right.Tie as tie
 

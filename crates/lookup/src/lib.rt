@@ -1,0 +1,8 @@
+// The key lookup, and the rules of a fit list.
+mod fitness;
+mod keys;
+
+pub use fitness::label_count;
+pub use fitness::rule_broken;
+pub use keys::find;
+pub use keys::list_part;

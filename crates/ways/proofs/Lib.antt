@@ -1,0 +1,4 @@
+pub mod Choosing
+pub mod Slots
+pub mod Ends
+pub mod Looking

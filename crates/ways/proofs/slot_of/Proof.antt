@@ -1,0 +1,10 @@
+-- `ways::slot_of` meets its contract. Assumes nothing.
+use borrow.Author.Needs.{needs}
+use Rattle.ways.proofs.Choosing.{slot-free, slot-taken, slot-missing}
+use Rattle.ways.proofs.slot_of.Statement.{statement}
+use Rattle.ways.proofs.slot_of.Tie as tie
+
+pub slot-of-spec : {M : Type 1} → statement M
+slot-of-spec =
+    tie.close
+    (tie.spec (λ c. search (slot-free, needs)) (λ c. search (slot-taken, needs)) (λ c. search (slot-missing, needs)))
