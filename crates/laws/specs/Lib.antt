@@ -4,3 +4,10 @@ pub mod Sets
 pub mod Keeping
 pub mod NodeRows
 pub mod Determined
+pub mod Loops
+pub mod Halving
+pub mod Turns
+pub mod Cases
+pub mod Over
+pub mod Header
+pub mod Fitness

@@ -1,0 +1,10 @@
+-- `store::parts::constraints_after` meets its contract. Assumes nothing.
+use borrow.Author.Needs.{needs}
+use Rattle.store.proofs.parts.constraints_after.Statement.{statement}
+use Rattle.store.proofs.parts.constraints_after.Tie as tie
+
+pub constraints-after-spec : {M : Type 1} → statement M
+constraints-after-spec =
+    tie.close
+    (tie.spec (λ c κs. search needs) (λ c. search needs) (λ c. search needs) (λ c. search needs) (λ c. search needs)
+    (λ c. search needs) (λ c. cc))

@@ -1,0 +1,11 @@
+-- `store::records::label_after` meets its contract. Assumes nothing.
+use borrow.Author.Needs.{needs}
+use Rattle.rules.specs.Store.{labelAfter}
+use Rattle.store.proofs.records.label_after.Statement.{statement}
+use Rattle.store.proofs.records.label_after.Tie as tie
+
+pub label-after-spec : {M : Type 1} → statement M
+unfolding labelAfter
+label-after-spec =
+    tie.close
+    (tie.spec (λ c. cc))
