@@ -11,3 +11,6 @@ pub mod Cases
 pub mod Over
 pub mod Header
 pub mod Fitness
+pub mod Slices
+pub mod Merging
+pub mod Searching

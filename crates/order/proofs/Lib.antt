@@ -1,0 +1,2 @@
+mod Merged
+mod Keeping
