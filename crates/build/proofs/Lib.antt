@@ -1,0 +1,6 @@
+pub mod Filling
+pub mod Kept
+pub mod Ranges
+pub mod Records
+pub mod Comparing
+pub mod Emitting

@@ -1,0 +1,3 @@
+pub mod Packed
+pub mod Keyed
+pub mod Emit

@@ -1,0 +1,1 @@
+// The walk over the keys of a constraint, one label of S after another.
