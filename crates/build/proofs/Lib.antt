@@ -4,3 +4,4 @@ pub mod Ranges
 pub mod Records
 pub mod Comparing
 pub mod Emitting
+pub mod Going

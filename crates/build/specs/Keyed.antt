@@ -1,6 +1,6 @@
 -- Keys with their lists, one label of S after another: what the walk over keys goes through.
 use Prim.Native.Nat.{ℕ}
-use mathlib.Core.Bool.{Bool, true, false, cond}
+use mathlib.Core.Bool.{Bool, cond}
 use mathlib.Core.List.{List, [], _∷_, _++_, flatMap}
 use lib.Dec.{ltb, eqb}
 use lib.ListN.{length}
@@ -15,10 +15,7 @@ pub record Keyed : Type 0 where
 unfoldable pub keyedFrom : (ℕ → ℕ → Bool) → (ℕ → List ℕ) → ℕ → List ℕ → List ℕ → List ℕ → List Keyed
 keyedFrom joined labelled t [] key list = cond (ltb t (length list)) (record { key = key; list = list } ∷ []) []
 keyedFrom joined labelled t (s ∷ labels) key list =
-    elim (ltb t (length list)) [
-      | true ↦ flatMap (λ u. keyedFrom joined labelled t labels (key ++ u ∷ []) (keep (joined u) list)) (labelled s)
-      | false ↦ []
-    ]
+    cond (ltb t (length list)) (flatMap (λ u. keyedFrom joined labelled t labels (key ++ u ∷ []) (keep (joined u) list)) (labelled s)) []
 
 -- the labels up to the first zero
 unfoldable pub labelsLeft : ℕ → ℕ → ℕ → List ℕ

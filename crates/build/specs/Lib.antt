@@ -1,3 +1,4 @@
 pub mod Packed
 pub mod Keyed
 pub mod Emit
+pub mod Walk

@@ -19,3 +19,10 @@ pub struct Tally {
     pub entries: u32,
     pub stopped: bool,
 }
+
+// The labels of S that are left, with zeros after them.
+pub struct Labels {
+    pub first: u16,
+    pub second: u16,
+    pub third: u16,
+}
