@@ -5,3 +5,4 @@ pub mod Records
 pub mod Comparing
 pub mod Emitting
 pub mod Going
+pub mod Passing

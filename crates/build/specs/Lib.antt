@@ -2,3 +2,4 @@ pub mod Packed
 pub mod Keyed
 pub mod Emit
 pub mod Walk
+pub mod Pass

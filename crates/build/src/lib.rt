@@ -1,6 +1,7 @@
 // Building and admitting a store: neighbours, keys, lists, groups and entries.
 mod adjacency;
 mod emit;
+mod pass;
 mod walk;
 
 // What a walk over the keys of a constraint is for: mode 0 counts, 1 writes, any other compares; lists longer than `above`, and how many at most.

@@ -1,0 +1,52 @@
+-- A pass over all constraints of a graph.
+use Prim.Native.Nat.{ℕ, _≤_}
+use mathlib.Core.Path.{_≡_}
+use mathlib.Core.Bool.{cond}
+use mathlib.Core.List.{List, [], _++_, map}
+use lib.Dec.{eqb}
+use lib.ListN.{length}
+use Rattle.rules.specs.Lists.{range, foldFrom, setOf}
+use Rattle.rules.specs.Store.{edgesIn, nodesIn, constraintsIn, constraintAt}
+use Rattle.rules.specs.declared.Constraint.{Constraint}
+use Rattle.build.specs.Packed.{forwardAt, backwardAt, wordIn, labelledIn}
+use Rattle.build.specs.Keyed.{Keyed, keyedFrom, labelsLeft}
+use Rattle.build.specs.Emit.{Placed, Sink, emitAll}
+use Rattle.build.specs.declared.Task.{Task}
+
+-- the edges as words, and the edges both ways round
+unfoldable pub forwardSet : List ℕ → List ℕ
+forwardSet edges = setOf (map (forwardAt edges) (range 0 (edgesIn edges)))
+
+unfoldable pub joinedSet : List ℕ → List ℕ
+joinedSet edges = setOf (map (forwardAt edges) (range 0 (edgesIn edges)) ++ map (backwardAt edges) (range 0 (edgesIn edges)))
+
+-- lists longer than this: than N where the task asks for it, else all that are not empty
+unfoldable pub aboveFor : Task → Constraint → ℕ
+aboveFor task d = cond (eqb (task .above) 0) 0 (d .most)
+
+abbrev pub taskFor : Task → Constraint → Task
+taskFor task d = record { mode = task .mode; above = aboveFor task d; groups = task .groups; entries = task .entries; table = task .table; lists = task .lists }
+
+-- the keys of a constraint, with their lists
+unfoldable pub keyedBy : Task → List ℕ → List ℕ → Constraint → List Keyed
+keyedBy task nodes joined d =
+    keyedFrom (wordIn joined) (labelledIn nodes) (aboveFor task d) (labelsLeft (d .first) (d .second) (d .third)) [] (labelledIn nodes (d .label))
+
+-- they are dealt with
+unfoldable pub visited : Task → List ℕ → List ℕ → List ℕ → List ℕ → List ℕ → ℕ → Sink → Sink
+visited task nodes joined words constraints store c s =
+    emitAll (taskFor task (constraintAt constraints c)) words store c s (keyedBy task nodes joined (constraintAt constraints c))
+
+unfoldable pub visitedAll : Task → List ℕ → List ℕ → List ℕ → List ℕ → List ℕ → Sink → Sink
+visitedAll task nodes joined words constraints store s =
+    foldFrom (visited task nodes joined words constraints store) 0 (constraintsIn constraints) s
+
+-- the rooms are long enough
+pub record Ready (task : Task) (nodes constraints a b c d store room : List ℕ) : Type 0 where
+  pub placed : Placed task (length store) (length room)
+  pub few : nodesIn nodes ≤ 65535
+  pub limited : constraintsIn constraints ≤ 32
+  pub zero : 65536 ≤ length a
+  pub one : 65536 ≤ length b
+  pub two : 65536 ≤ length c
+  pub three : 65536 ≤ length d
