@@ -6,3 +6,9 @@ pub mod Comparing
 pub mod Emitting
 pub mod Going
 pub mod Passing
+pub mod Groups
+pub mod Graphs
+pub mod Items
+pub mod Whole
+pub mod Index
+pub mod Numbers

@@ -5,21 +5,21 @@ use mathlib.Core.Bool.{Bool, true, false, cond}
 use mathlib.Core.List.{List, [], _∷_, _++_, map, append-assoc}
 use Prim.Native.Nat.{ℕ, suc, _+_, _-_, _*_, _≤_, _<_}
 use lib.Dec.{eqb}
-use lib.ListN.{length, take, drop, length-append, length-map}
+use lib.ListN.{length, take, drop, replicate, length-append, length-map, length-replicate}
 use lib.Seq.{take-at, take-append-le, take-append-add}
 use borrow.Rule.Slice.PartMut.{putMid}
 use borrow.Author.Tests.{eq-eqb, ne-eqb}
 use Rattle.rules.specs.Lists.{range, sortOf, setOf, padded, keep}
-use Rattle.rules.specs.Store.{edgesIn, nodesIn, constraintsIn, constraintAt}
+use Rattle.rules.specs.Store.{edgesIn, nodesIn, constraintsIn, constraintAt, nodePart, edgePart, constraintPart}
 use Rattle.rules.specs.Index.{noId}
 use Rattle.rules.specs.declared.Constraint.{Constraint}
 use Rattle.rules.specs.declared.Key.{Key}
 use Rattle.laws.specs.Keeping.{keep-most}
-use Rattle.build.specs.Packed.{forwardAt, backwardAt, wordIn, hasLabel, labelledIn}
+use Rattle.build.specs.Packed.{forwardAt, backwardAt, EdgesBelow, wordIn, hasLabel, labelledIn}
 use Rattle.build.specs.Keyed.{keyedFrom, labelsLeft}
-use Rattle.build.specs.Emit.{sinkOf, emitAll, idsOf}
+use Rattle.build.specs.Emit.{Sink, sinkOf, emitAll, idsOf, Placed}
 use Rattle.build.specs.Walk.{Fit, Done}
-use Rattle.build.specs.Pass.{forwardSet, joinedSet, aboveFor, taskFor, keyedBy, visited, Ready}
+use Rattle.build.specs.Pass.{forwardSet, joinedSet, aboveFor, taskFor, keyedBy, visited, visitedAll, Ready, Sound, nothing, passed}
 use Rattle.build.specs.declared.Task.{Task}
 use Rattle.build.specs.declared.Tally.{Tally}
 use Rattle.build.specs.declared.Labels.{Labels}
@@ -124,3 +124,36 @@ pub visit-done : {own : Task} {list : List ℕ} {x : Constraint} (task : Task) (
 unfolding visited keyedBy
 visit-done task nodes joined words constraints store n t room t′ room′ p e l d =
     rw (e, l) at (d .all) ∙ ap (λ x. emitAll (taskFor task x) words store n (sinkOf t room) (keyedBy task nodes joined x)) p
+
+-- ---- the sections of a store
+pub edges-fit : (r s : List ℕ) → r ≡ edgePart s → Sound s → (edgesIn r ≤ 262144) × EdgesBelow r
+edges-fit r s e d = (rw e (d .edges), rw e (d .below))
+
+pub ready-own : (task : Task) (s nodes constraints a b c d store room : List ℕ) → nodes ≡ nodePart s → constraints ≡ constraintPart s → Sound s → Placed task (length store) (length room)
+    → 65536 ≤ length a → 65536 ≤ length b → 65536 ≤ length c → 65536 ≤ length d → Ready task nodes constraints a b c d store room
+ready-own task s nodes constraints a b c d store room en ec f p ha hb hc hd = record {
+  placed = p;
+  few = rw en (f .nodes);
+  limited = rw ec (f .constraints);
+  zero = ha;
+  one = hb;
+  two = hc;
+  three = hd;
+}
+
+pub own-done : (task : Task) (s nodes constraints joined words store : List ℕ) (r x : Sink) → nodes ≡ nodePart s → constraints ≡ constraintPart s
+    → r ≡ visitedAll task nodes joined words constraints store x → r ≡ visitedAll task (nodePart s) joined words (constraintPart s) store x
+own-done task s nodes constraints joined words store r x en ec e = e ∙ ap (λ l. visitedAll task l joined words constraints store x) en ∙ ap (λ l. visitedAll task (nodePart s) joined words l store x) ec
+
+pub pass-done : (task : Task) (s joined words store room : List ℕ) (r : Sink) → joined ≡ joinedSet (edgePart s) → words ≡ forwardSet (edgePart s)
+    → r ≡ visitedAll task (nodePart s) joined words (constraintPart s) store (sinkOf nothing room) → r ≡ passed task s store room
+unfolding passed
+pass-done task s joined words store room r ej ew e =
+    e ∙ ap (λ l. visitedAll task (nodePart s) l words (constraintPart s) store (sinkOf nothing room)) ej
+    ∙ ap (λ l. visitedAll task (nodePart s) (joinedSet (edgePart s)) l (constraintPart s) store (sinkOf nothing room)) ew
+
+pub twice-fits : (n m : ℕ) → n ≤ 262144 → 524288 ≤ m → n * 2 ≤ m
+twice-fits n m h k = omega arith
+
+pub new-fits : (n a : ℕ) → n ≤ length (replicate n a)
+new-fits n a = rw length-replicate (omega arith)

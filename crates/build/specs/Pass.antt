@@ -1,17 +1,18 @@
 -- A pass over all constraints of a graph.
 use Prim.Native.Nat.{ℕ, _≤_}
 use mathlib.Core.Path.{_≡_}
-use mathlib.Core.Bool.{cond}
+use mathlib.Core.Bool.{cond, true, false}
 use mathlib.Core.List.{List, [], _++_, map}
 use lib.Dec.{eqb}
 use lib.ListN.{length}
 use Rattle.rules.specs.Lists.{range, foldFrom, setOf}
-use Rattle.rules.specs.Store.{edgesIn, nodesIn, constraintsIn, constraintAt}
+use Rattle.rules.specs.Store.{edgesIn, nodesIn, constraintsIn, constraintAt, groupsAt, nodePart, edgePart, constraintPart, headerRight, recordsRight, constraintsRight}
 use Rattle.rules.specs.declared.Constraint.{Constraint}
-use Rattle.build.specs.Packed.{forwardAt, backwardAt, wordIn, labelledIn}
+use Rattle.build.specs.Packed.{forwardAt, backwardAt, EdgesBelow, wordIn, labelledIn}
 use Rattle.build.specs.Keyed.{Keyed, keyedFrom, labelsLeft}
-use Rattle.build.specs.Emit.{Placed, Sink, emitAll}
+use Rattle.build.specs.Emit.{Placed, Sink, sinkOf, emitAll}
 use Rattle.build.specs.declared.Task.{Task}
+use Rattle.build.specs.declared.Tally.{Tally}
 
 -- the edges as words, and the edges both ways round
 unfoldable pub forwardSet : List ℕ → List ℕ
@@ -50,3 +51,26 @@ pub record Ready (task : Task) (nodes constraints a b c d store room : List ℕ)
   pub one : 65536 ≤ length b
   pub two : 65536 ≤ length c
   pub three : 65536 ≤ length d
+
+-- a store whose sections are there and whose edges are below the number of nodes
+pub record Sound (s : List ℕ) : Type 0 where
+  pub long : groupsAt s ≤ length s
+  pub nodes : nodesIn (nodePart s) ≤ 65535
+  pub edges : edgesIn (edgePart s) ≤ 262144
+  pub constraints : constraintsIn (constraintPart s) ≤ 32
+  pub below : EdgesBelow (edgePart s)
+
+-- nothing counted yet
+abbrev pub nothing : Tally
+nothing = record { groups = 0; entries = 0; stopped = false }
+
+-- all groups of a store's graph are dealt with
+unfoldable pub passed : Task → List ℕ → List ℕ → List ℕ → Sink
+passed task s store room =
+    visitedAll task (nodePart s) (joinedSet (edgePart s)) (forwardSet (edgePart s)) (constraintPart s) store (sinkOf nothing room)
+
+-- a store or draft without refusal 1, 2 or 3
+pub record Right (s : List ℕ) : Type 0 where
+  pub header : headerRight s ≡ true
+  pub records : recordsRight s ≡ true
+  pub constraints : constraintsRight (constraintPart s) ≡ true

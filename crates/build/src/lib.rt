@@ -1,5 +1,6 @@
 // Building and admitting a store: neighbours, keys, lists, groups and entries.
 mod adjacency;
+mod count;
 mod emit;
 mod pass;
 mod walk;

@@ -11,10 +11,10 @@ use rules::Key;
 ghost use mathlib.Core.Path.{_≡_};
 ghost use Prim.Native.Nat.{_+_, _*_, _≤_, _<_};
 ghost use lib.ListN.{length, take};
-ghost use Rattle.rules.specs.Store.{edgesIn, constraintsIn};
+ghost use Rattle.rules.specs.Store.{edgesIn, constraintsIn, nodePart, edgePart, constraintPart};
 ghost use Rattle.build.specs.Packed.{EdgesBelow};
-ghost use Rattle.build.specs.Emit.{sinkOf};
-ghost use Rattle.build.specs.Pass.{forwardSet, joinedSet, taskFor, Ready, visited, visitedAll};
+ghost use Rattle.build.specs.Emit.{sinkOf, Placed};
+ghost use Rattle.build.specs.Pass.{forwardSet, joinedSet, taskFor, Ready, visited, visitedAll, nothing, Sound, passed};
 
 // Leaves the edges as words, ascending, at the front of words, and returns how many they are.
 fn forward_words(edges: &[u8], words: &mut [u32], scratch: &mut [u32]) -> usize
@@ -144,4 +144,73 @@ fn visit_all(
         c += 1;
     }
     t
+}
+
+// Goes through the keys of every constraint of a graph, whose edges are at hand as words.
+fn pass_over(
+    task: Task,
+    s: &[u8],
+    joined: &[u32],
+    words: &[u32],
+    store: &[u8],
+    room: &mut [u8],
+) -> Tally
+    requires { ⌜ Sound (now s) × Placed task (length (now store)) (length (now room)) ⌝ }
+    ensures { λ r. ⌜ sinkOf r (now (room .exit)) ≡ visitedAll task (nodePart (now (s .entry))) (now (joined .entry)) (now (words .entry)) (constraintPart (now (s .entry))) (now (store .entry)) (sinkOf nothing (now (room .entry))) ⌝ }
+{
+    let nodes = store::node_part(s);
+    let constraints = store::constraint_part(s);
+    let mut zero = [0u32; 65536];
+    let mut one = [0u32; 65536];
+    let mut two = [0u32; 65536];
+    let mut three = [0u32; 65536];
+    let tally = Tally {
+        groups: 0,
+        entries: 0,
+        stopped: false,
+    };
+    visit_all(
+        task,
+        nodes,
+        joined,
+        words,
+        constraints,
+        &mut zero,
+        &mut one,
+        &mut two,
+        &mut three,
+        store,
+        room,
+        tally,
+    )
+}
+
+// Leaves the edges of s as words at the front of words, and returns how many they are.
+fn own_forward(s: &[u8], words: &mut [u32]) -> usize
+    requires { ⌜ Sound (now s) × (262144 ≤ length (now words)) ⌝ }
+    ensures { λ r. ⌜ (r ≤ length (now (words .exit))) × (take r (now (words .exit)) ≡ forwardSet (edgePart (now (s .entry)))) ⌝ }
+{
+    let mut scratch = [0u32; 262144];
+    forward_words(store::edge_part(s), words, &mut scratch)
+}
+
+// Leaves the edges of s as words, each both ways round, at the front of words, and returns how many they are.
+fn own_joined(s: &[u8], words: &mut [u32]) -> usize
+    requires { ⌜ Sound (now s) × (524288 ≤ length (now words)) ⌝ }
+    ensures { λ r. ⌜ (r ≤ length (now (words .exit))) × (take r (now (words .exit)) ≡ joinedSet (edgePart (now (s .entry)))) ⌝ }
+{
+    let mut scratch = [0u32; 524288];
+    joined_words(store::edge_part(s), words, &mut scratch)
+}
+
+// Counts, writes or compares all groups of the graph of s.
+pub fn pass(task: Task, s: &[u8], store: &[u8], room: &mut [u8]) -> Tally
+    requires { ⌜ Sound (now s) × Placed task (length (now store)) (length (now room)) ⌝ }
+    ensures { λ r. ⌜ sinkOf r (now (room .exit)) ≡ passed task (now (s .entry)) (now (store .entry)) (now (room .entry)) ⌝ }
+{
+    let mut words = [0u32; 262144];
+    let mut joined = [0u32; 524288];
+    let m = own_forward(s, &mut words);
+    let n = own_joined(s, &mut joined);
+    pass_over(task, s, &joined[..n], &words[..m], store, room)
 }
