@@ -167,7 +167,7 @@ module _ {s : List ℕ} (right : Right s) where
   right-sound = sound s (right .header) (right .records)
 
   module _ (task : Task) (store : List ℕ) where
-    pub itemsOf : List Item
+    unfoldable pub itemsOf : List Item
     itemsOf = itemsFrom task (forwardSet (edgePart s)) store (nodePart s) (joinedSet (edgePart s)) (constraintPart s) 0 (constraintsIn (constraintPart s))
 
     pub passed-items : (room : List ℕ) → passed task s store room ≡ emitItems task (forwardSet (edgePart s)) store (sinkOf nothing room) itemsOf

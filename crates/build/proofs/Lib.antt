@@ -12,3 +12,6 @@ pub mod Items
 pub mod Whole
 pub mod Index
 pub mod Numbers
+pub mod Written
+pub mod Built
+pub mod Fitted

@@ -64,7 +64,7 @@ module _ (task : Task) (d : Constraint) where
   unfolding aboveFor
   above-most h = ap with-above (sym (ap (λ b. cond b 0 (d .most)) (ne-eqb (task .above) 0 h)))
 
-labels-few : (a b c : ℕ) → length (labelsLeft a b c) ≤ 3
+pub labels-few : (a b c : ℕ) → length (labelsLeft a b c) ≤ 3
 unfolding labelsLeft
 labels-few a b c = go (eqb a 0) (eqb b 0) (eqb c 0)
   where

@@ -3,3 +3,4 @@ pub mod Keyed
 pub mod Emit
 pub mod Walk
 pub mod Pass
+pub mod Outcome

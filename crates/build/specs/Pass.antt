@@ -1,12 +1,13 @@
 -- A pass over all constraints of a graph.
-use Prim.Native.Nat.{ℕ, _≤_}
+use Prim.Native.Nat.{ℕ, _+_, _*_, _≤_}
 use mathlib.Core.Path.{_≡_}
 use mathlib.Core.Bool.{cond, true, false}
 use mathlib.Core.List.{List, [], _++_, map}
 use lib.Dec.{eqb}
 use lib.ListN.{length}
 use Rattle.rules.specs.Lists.{range, foldFrom, setOf}
-use Rattle.rules.specs.Store.{edgesIn, nodesIn, constraintsIn, constraintAt, groupsAt, nodePart, edgePart, constraintPart, headerRight, recordsRight, constraintsRight}
+use Rattle.rules.specs.Store.{edgesIn, nodesIn, constraintsIn, constraintAt, groupsAt, nodePart, edgePart, constraintPart, headerRight, draftRight, recordsRight, constraintsRight}
+use Rattle.rules.specs.Index.{storeIndex, entryTotal}
 use Rattle.rules.specs.declared.Constraint.{Constraint}
 use Rattle.build.specs.Packed.{forwardAt, backwardAt, EdgesBelow, wordIn, labelledIn}
 use Rattle.build.specs.Keyed.{Keyed, keyedFrom, labelsLeft}
@@ -74,3 +75,13 @@ pub record Right (s : List ℕ) : Type 0 where
   pub header : headerRight s ≡ true
   pub records : recordsRight s ≡ true
   pub constraints : constraintsRight (constraintPart s) ≡ true
+
+-- a draft whose store has so many groups and entries, and fits into n bytes
+pub record Fitting (draft : List ℕ) (g e n : ℕ) : Type 0 where
+  pub header : draftRight draft ≡ true
+  pub right : Right draft
+  pub groups : g ≡ length (storeIndex draft)
+  pub entries : e ≡ entryTotal (storeIndex draft)
+  pub fewGroups : g ≤ 262144
+  pub fewEntries : e ≤ 1048576
+  pub fits : length draft + g * 24 + e * 8 ≤ n

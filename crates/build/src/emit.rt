@@ -35,17 +35,34 @@ fn directions(words: &[u32], key: Key, v: u32) -> u8
     bits(words, key.first, v) + 4 * (bits(words, key.second, v) + 4 * bits(words, key.third, v))
 }
 
+// Writes six words at `at`.
+pub fn put_six(room: &mut [u8], at: usize, a: u32, b: u32, c: u32, d: u32, e: u32, f: u32)
+    requires { ⌜ at + 24 ≤ length (now room) ⌝ }
+    ensures { λ _. ⌜ now (room .exit) ≡ over (now (room .entry)) at (groupRecord a (b ∷ c ∷ d ∷ []) e f) ⌝ }
+{
+    words::put_u32(room, at, a);
+    words::put_u32(room, at + 4, b);
+    words::put_u32(room, at + 8, c);
+    words::put_u32(room, at + 12, d);
+    words::put_u32(room, at + 16, e);
+    words::put_u32(room, at + 20, f);
+}
+
 // Writes a group record at `at`.
 fn put_group(room: &mut [u8], at: usize, key: Key, start: u32, count: u32)
     requires { ⌜ at + 24 ≤ length (now room) ⌝ }
     ensures { λ _. ⌜ now (room .exit) ≡ over (now (room .entry)) at (groupRecord (key .constraint) (idsOf key) start count) ⌝ }
 {
-    words::put_u32(room, at, key.constraint);
-    words::put_u32(room, at + 4, key.first);
-    words::put_u32(room, at + 8, key.second);
-    words::put_u32(room, at + 12, key.third);
-    words::put_u32(room, at + 16, start);
-    words::put_u32(room, at + 20, count);
+    put_six(
+        room,
+        at,
+        key.constraint,
+        key.first,
+        key.second,
+        key.third,
+        start,
+        count,
+    );
 }
 
 // Writes a byte and three zero bytes at `at`.

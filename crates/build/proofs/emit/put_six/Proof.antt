@@ -1,9 +1,9 @@
 use borrow.Author.Needs.{needs}
 use Rattle.build.proofs.Records.{one-entry, six-words}
-use Rattle.build.proofs.emit.put_group.Statement.{statement}
-use Rattle.build.proofs.emit.put_group.Tie as tie
-use Rattle.build.proofs.emit.put_group.Reads as reads
-use Rattle.build.proofs.emit.put_group.Lts as lts
+use Rattle.build.proofs.emit.put_six.Statement.{statement}
+use Rattle.build.proofs.emit.put_six.Tie as tie
+use Rattle.build.proofs.emit.put_six.Reads as reads
+use Rattle.build.proofs.emit.put_six.Lts as lts
 use Rattle.words.proofs.put_u32.Reads as put-u32-reads
 
 put-u32-requires : tie.Need-put-u32-requires
@@ -53,8 +53,8 @@ returns c =
     six-words _ _ _ _ _ _ _ _ _ _ _ _ _ _ (p1 .before .before .before .pre) (p1 .put-u32 .ensures) (p2 .put-u322 .ensures) (p3 .put-u323 .ensures)
     (p4 .put-u324 .ensures) (p5 .put-u325 .ensures) (p6 .put-u326 .ensures)
 
-pub put-group-spec : {M : Type 1} → statement M
-put-group-spec =
+pub put-six-spec : {M : Type 1} → statement M
+put-six-spec =
     tie.close
     (tie.spec
     put-u32-requires
