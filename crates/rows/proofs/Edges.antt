@@ -1,8 +1,8 @@
 -- Laws of the loop that writes the edge rows. Assumes nothing.
-use mathlib.Core.Path.{_≡_, refl, sym, ap, _∙_}
-use mathlib.Core.Bool.{Bool, true, false, false≢true}
-use mathlib.Core.List.{List, [], _∷_, flatMap}
-use mathlib.Core.Option.{Option, some, none}
+use mathlib.Core.Path.{_≡_, sym}
+use mathlib.Core.Bool.{true, false, false≢true}
+use mathlib.Core.List.{List, _∷_, flatMap}
+use mathlib.Core.Option.{some, none}
 use Prim.Native.Nat.{ℕ, suc, _+_, _-_, _*_, _≤_, _<_}
 use native.Mathlib.Nat.{sub-zero}
 use native.Mathlib.Omega.{arith}
@@ -13,7 +13,7 @@ use Rattle.rules.specs.Pattern.{edgesOf}
 use Rattle.rules.specs.Plan.{smallest, edgeWays, listed, edgeRows, figuresOf, rowWords}
 use Rattle.rules.specs.declared.Row.{Row}
 use Rattle.rows.specs.declared.Stand.{Stand}
-use Rattle.rows.specs.Rows.{Standing, EdgesDone}
+use Rattle.rows.specs.Rows.{standOf, Standing, EdgesDone}
 use Rattle.rows.proofs.Going.{Going, going-start, going-next, going-above, going-done}
 
 -- the rows of the edges from j on
@@ -60,26 +60,26 @@ module _ {constraints b figures rows₀ rows : List ℕ} {count₀ sum₀ count 
 
 module _ {constraints b rows₀ rows : List ℕ} {count sum j : ℕ} {s : Stand} (inv : EdgesGoing constraints b (s .figures) rows₀ rows (s .count) (s .sum) count sum j) where
   -- the row of edge j is above 65,536
-  pub edges-above : (r : Row) → j < edgesOf b → smallest (edgeWays constraints b (s .figures) j) ≡ some r → 65536 < r .figure
-      → EdgesDone constraints b s rows₀ rows (record { figures = s .figures; count = count; sum = sum; fits = false })
-  edges-above r h e above = record {
+  pub edges-above : (q : Row) → j < edgesOf b → smallest (edgeWays constraints b (s .figures) j) ≡ some q → 65536 < q .figure
+      → {r : Stand} → r ≡ standOf (s .figures) count sum false → EdgesDone constraints b s rows₀ rows r
+  edges-above q h e above made = rw made (record {
     written = λ f. absurd (false≢true f);
     few = λ f. absurd (false≢true f);
     most = λ f. absurd (false≢true f);
-    above = λ f. going-above (rw (some-left inv r h e) at (inv .going)) above;
+    above = λ f. going-above (rw (some-left inv q h e) at (inv .going)) above;
     kept = inv .going .kept;
-  }
+  })
 
   -- each edge has had its turn
   pub edges-done : Standing constraints b s → edgesOf b ≤ 56 → edgesOf b ≤ j
-      → EdgesDone constraints b s rows₀ rows (record { figures = s .figures; count = count; sum = sum; fits = true })
+      → {r : Stand} → r ≡ standOf (s .figures) count sum true → EdgesDone constraints b s rows₀ rows r
   unfolding range flatMap
-  edges-done standing few h =
+  edges-done standing few h made =
       let m : edgesOf b - j ≡ 0 = omega arith in
-      record {
+      rw made (record {
         written = λ f. going-done (rw m at (inv .going));
         few = λ f. omega (arith, inv .few, standing .few);
         most = λ f. omega (arith, inv .going .most, inv .few, standing .few, standing .most);
         above = λ f. absurd (false≢true (sym f));
         kept = inv .going .kept;
-      }
+      })

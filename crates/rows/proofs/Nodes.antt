@@ -1,8 +1,8 @@
 -- Laws of the loop that writes the node rows. Assumes nothing.
-use mathlib.Core.Path.{_≡_, refl, sym, ap, _∙_}
-use mathlib.Core.Bool.{Bool, true, false, false≢true}
+use mathlib.Core.Path.{_≡_, sym}
+use mathlib.Core.Bool.{true, false, false≢true}
 use mathlib.Core.List.{List, [], _∷_}
-use mathlib.Core.Option.{Option, some, none}
+use mathlib.Core.Option.{some, none}
 use Prim.Native.Nat.{ℕ, suc, _+_, _-_, _*_, _≤_, _<_}
 use native.Mathlib.Decide.{decLe, ℕ-discrete}
 use native.Mathlib.Nat.{sub-zero}
@@ -15,7 +15,8 @@ use Rattle.rules.specs.Plan.{noFigures, smallest, allWays, figuresWith, figures
 use Rattle.rules.specs.declared.Row.{Row}
 use Rattle.laws.specs.Covering.{rows-next, rows-stop, rows-zero}
 use Rattle.ways.specs.Ways.{Small}
-use Rattle.rows.specs.Rows.{Standing, NodesDone}
+use Rattle.rows.specs.declared.Stand.{Stand}
+use Rattle.rows.specs.Rows.{standOf, NodesDone}
 use Rattle.rows.proofs.Going.{Going, going-start, going-next, going-above, going-done}
 
 -- a figure that is not above 65,536 leaves small figures small
@@ -71,35 +72,35 @@ module _ {constraints b rows₀ rows figures : List ℕ} {count sum : ℕ} (inv 
 
   -- the next row is above 65,536
   pub nodes-above : (r : Row) → count < sizeOf b → smallest (allWays constraints b figures) ≡ some r → 65536 < r .figure
-      → NodesDone constraints b rows₀ rows (record { figures = figures; count = count; sum = sum; fits = false })
-  nodes-above r h e above = record {
+      → {s : Stand} → s ≡ standOf figures count sum false → NodesDone constraints b rows₀ rows s
+  nodes-above r h e above made = rw made (record {
     standing = λ f. absurd (false≢true f);
     written = λ f. absurd (false≢true f);
     above = λ f. going-above (rw (next-left r h e) at (inv .going)) above;
     kept = inv .going .kept;
-  }
+  })
 
   -- no row is left
   nodes-done : sizeOf b ≤ 8 → nodeRowsFrom constraints b (sizeOf b - count) figures ≡ []
-      → NodesDone constraints b rows₀ rows (record { figures = figures; count = count; sum = sum; fits = true })
+      → {s : Stand} → s ≡ standOf figures count sum true → NodesDone constraints b rows₀ rows s
   unfolding figuresAfter
-  nodes-done few left = record {
+  nodes-done few left made = rw made (record {
     standing = λ f. record { figures = rw left at (inv .after); small = inv .small; few = omega arith; most = omega (arith, inv .going .most) };
     written = λ f. going-done (rw left at (inv .going));
     above = λ f. absurd (false≢true (sym f));
     kept = inv .going .kept;
-  }
+  })
 
   -- for want of a way
   pub nodes-stop : sizeOf b ≤ 8 → count < sizeOf b → smallest (allWays constraints b figures) ≡ none
-      → NodesDone constraints b rows₀ rows (record { figures = figures; count = count; sum = sum; fits = true })
-  nodes-stop few h e =
+      → {s : Stand} → s ≡ standOf figures count sum true → NodesDone constraints b rows₀ rows s
+  nodes-stop few h e made =
       let m : sizeOf b - count ≡ suc (sizeOf b - (count + 1)) = omega arith in
-      nodes-done few (rw m (rows-stop constraints b (sizeOf b - (count + 1)) figures e))
+      nodes-done few (rw m (rows-stop constraints b (sizeOf b - (count + 1)) figures e)) made
 
   -- after a row for each node
   pub nodes-end : sizeOf b ≤ 8 → sizeOf b ≤ count
-      → NodesDone constraints b rows₀ rows (record { figures = figures; count = count; sum = sum; fits = true })
-  nodes-end few h =
+      → {s : Stand} → s ≡ standOf figures count sum true → NodesDone constraints b rows₀ rows s
+  nodes-end few h made =
       let m : sizeOf b - count ≡ 0 = omega arith in
-      nodes-done few (rw m (rows-zero constraints b figures))
+      nodes-done few (rw m (rows-zero constraints b figures)) made

@@ -1,7 +1,7 @@
 -- What writing the node rows and the edge rows leaves.
 use Prim.Native.Nat.{ℕ, _+_, _*_, _≤_, _<_}
 use mathlib.Core.Path.{_≡_}
-use mathlib.Core.Bool.{true, false}
+use mathlib.Core.Bool.{Bool, true, false}
 use mathlib.Core.List.{List, map, flatMap}
 use lib.ListN.{length}
 use Rattle.rules.specs.Lists.{sum}
@@ -14,6 +14,10 @@ use Rattle.rows.specs.declared.Stand.{Stand}
 -- the sum of the figures of rows
 abbrev pub total : List Row → ℕ
 total rows = sum (map (λ r. r .figure) rows)
+
+-- the stand with these figures, count and sum
+abbrev pub standOf : List ℕ → ℕ → ℕ → Bool → Stand
+standOf figures count sum fits = record { figures = figures; count = count; sum = sum; fits = fits }
 
 -- s counts these rows on from a count and a sum, and their words are written after that count of rows
 pub record Written (whole : List Row) (count₀ sum₀ : ℕ) (rows₀ rows : List ℕ) (s : Stand) : Type 0 where

@@ -7,7 +7,7 @@ ghost use lib.ListN.{length};
 ghost use Rattle.rules.specs.Words.{over};
 ghost use Rattle.rules.specs.Plan.{rowWords};
 ghost use Rattle.cover.specs.Given.{Given};
-ghost use Rattle.rows.specs.Rows.{Standing, NodesDone, EdgesDone};
+ghost use Rattle.rows.specs.Rows.{standOf, Standing, NodesDone, EdgesDone};
 
 // How far the rows have come: the figures of the nodes, rows written, the sum of their figures; `fits` says that none is above 65,536.
 pub struct Stand {
@@ -15,6 +15,18 @@ pub struct Stand {
     pub count: usize,
     pub sum: u64,
     pub fits: bool,
+}
+
+// Where the rows stand.
+fn stand_of(figures: [u32; 8], count: usize, sum: u64, fits: bool) -> Stand
+    ensures { λ r. ⌜ r ≡ standOf figures count sum fits ⌝ }
+{
+    Stand {
+        figures: figures,
+        count: count,
+        sum: sum,
+        fits: fits,
+    }
 }
 
 // Writes four words.
@@ -51,20 +63,10 @@ pub fn node_rows(constraints: &[u8], b: &[u8], t: [[bool; 8]; 8], rows: &mut [u3
         let best = ways::best_way(constraints, b, t, figures);
         let row = best.row;
         if !best.found {
-            return Stand {
-                figures: figures,
-                count: count,
-                sum: sum,
-                fits: true,
-            };
+            return stand_of(figures, count, sum, true);
         }
         if 65536 < row.figure {
-            return Stand {
-                figures: figures,
-                count: count,
-                sum: sum,
-                fits: false,
-            };
+            return stand_of(figures, count, sum, false);
         }
         put_row(rows, count * 8, row);
         let u = row.number as usize;
@@ -72,12 +74,7 @@ pub fn node_rows(constraints: &[u8], b: &[u8], t: [[bool; 8]; 8], rows: &mut [u3
         sum += row.figure;
         count += 1;
     }
-    Stand {
-        figures: figures,
-        count: count,
-        sum: sum,
-        fits: true,
-    }
+    stand_of(figures, count, sum, true)
 }
 
 // Writes the edge rows after the node rows.
@@ -102,22 +99,12 @@ pub fn edge_rows(
         j += 1;
         if best.found {
             if 65536 < row.figure {
-                return Stand {
-                    figures: figures,
-                    count: count,
-                    sum: sum,
-                    fits: false,
-                };
+                return stand_of(figures, count, sum, false);
             }
             put_row(rows, count * 8, row);
             sum += row.figure;
             count += 1;
         }
     }
-    Stand {
-        figures: figures,
-        count: count,
-        sum: sum,
-        fits: true,
-    }
+    stand_of(figures, count, sum, true)
 }

@@ -6,11 +6,6 @@ use Rattle.rows.proofs.Going.{way-found, way-missing}
 use Rattle.rows.proofs.Edges.{EdgesGoing, edges-start, edges-next, edges-skip, edges-above, edges-done}
 use Rattle.rows.proofs.edge_rows.Statement.{statement}
 use Rattle.rows.proofs.edge_rows.Tie as tie
-use Rattle.rows.proofs.edge_rows.Reads as reads
-use Rattle.rows.proofs.edge_rows.Lts as lts
-use Rattle.pattern.proofs.edges_of.Reads as edges-of-reads
-use Rattle.rows.proofs.put_row.Reads as put-row-reads
-use Rattle.ways.proofs.best_for_edge.Reads as best-for-edge-reads
 
 abbrev Inv-loop : tie.InvT-loop
 Inv-loop constraints b t rows₀ q figures count₀ sum₀ j₀ rows count sum j = EdgesGoing constraints b figures rows₀ rows count₀ sum₀ count sum j
@@ -24,8 +19,8 @@ loop-holds c = edges-start _ _ _ _ _ _ (c .before .before .before .before .befor
 -- a figure is above 65,536
 returns : tie.Need-returns Inv-loop μ-loop
 returns c =
-    edges-above (c .before .before .before .before .before .before .loop .inv) _ (omega arith)
-    (way-found _ _ (c .before .before .before .before .best-for-edge .ensures) (c .before .before .if1 .taken)) (c .if2 .taken)
+    edges-above (c .before .before .before .before .before .before .before .loop .inv) _ (omega arith)
+    (way-found _ _ (c .before .before .before .before .before .best-for-edge .ensures) (c .before .before .before .if1 .taken)) (c .before .if2 .taken) (c .stand-of .ensures)
 
 add-sum : tie.Need-add-sum Inv-loop μ-loop
 add-sum c =
@@ -53,11 +48,11 @@ loop-again-2 c = edges-skip (c .before .before .before .before .loop .inv) (omeg
 
 -- each edge has had its turn
 returns-2 : tie.Need-returns-2 Inv-loop μ-loop
-returns-2 c = edges-done (c .before .loop .inv) (c .before .before .before .before .before .before .before .pre .1 .0) (c .before .before .before .before .before .before .before .pre .0 .known .edges) (omega arith)
+returns-2 c = edges-done (c .before .before .loop .inv) (c .before .before .before .before .before .before .before .before .pre .1 .0) (c .before .before .before .before .before .before .before .before .pre .0 .known .edges) (omega arith) (c .stand-of2 .ensures)
 
 pub edge-rows-spec : {M : Type 1} → statement M
 edge-rows-spec =
     tie.close
-    (tie.spec Inv-loop μ-loop (λ c κs. search needs) loop-holds (λ c κs. search needs) (λ c. search needs) (λ c. search needs) returns
+    (tie.spec Inv-loop μ-loop (λ c κs. search needs) loop-holds (λ c κs. search needs) (λ c. search needs) (λ c κs. search needs) (λ c. search needs) returns
     (λ c. search needs) (λ c κs. search needs) add-sum add-count (λ c. search needs) loop-again (λ c. search needs) loop-again-2
-    (λ c. search needs) returns-2)
+    (λ c κs. search needs) (λ c. search needs) returns-2)
