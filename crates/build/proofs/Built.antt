@@ -2,18 +2,18 @@
 use native.Mathlib.Omega.{arith}
 use native.Mathlib.Numerals.{add-one}
 use mathlib.Core.Path.{_≡_, refl, sym, ap, _∙_}
-use mathlib.Core.Bool.{Bool, true, false, not, _||_, false≢true}
-use mathlib.Core.List.{List, [], _∷_, _++_, append-assoc}
-use Prim.Native.Nat.{ℕ, suc, _+_, _-_, _*_, _≤_, _<_}
-use lib.Dec.{eqb, leb, ltb}
-use lib.ListN.{length, take, drop, set, getD, length-append, length-take, length-drop, length-set}
+use mathlib.Core.Bool.{Bool, true, false, not, false≢true}
+use mathlib.Core.List.{List, [], _∷_, _++_}
+use Prim.Native.Nat.{ℕ, _+_, _-_, _*_, _≤_, _<_}
+use lib.Dec.{eqb, leb}
+use lib.ListN.{length, take, drop, set, getD, length-append, length-take, length-drop}
 use lib.Seq.{paste, paste-suc, take-all}
-use borrow.Author.Tests.{ltb-false, not-true, not-false, eq-eqb, ne-eqb, le-leb, lt-leb}
-use Rattle.rules.specs.Words.{part, encoded, over}
-use Rattle.rules.specs.Store.{nodeCount, edgeCount, constraintCount, groupsAt, header, draftRight, headerRight}
-use Rattle.rules.specs.Index.{groupBytes, entryBytes, storeIndex, entryTotal, storeOf, tooMany, exceeds}
+use borrow.Author.Tests.{not-true, not-false, eq-eqb, ne-eqb, le-leb, lt-leb}
+use Rattle.rules.specs.Words.{encoded, over}
+use Rattle.rules.specs.Store.{nodeCount, edgeCount, constraintCount, groupsAt, header, draftRight}
+use Rattle.rules.specs.Index.{groupBytes, entryBytes, storeIndex, entryTotal, storeOf}
 use Rattle.rules.specs.Answers.{Outcome, answered, refused, outcome, graphNumber, buildNumber, buildOutcome}
-use Rattle.laws.specs.Over.{over-over, length-over}
+use Rattle.laws.specs.Over.{over-over}
 use Rattle.laws.specs.Header.{header-ends, header-long, draft-header, draft-bare}
 use Rattle.build.specs.Emit.{groupRecord}
 use Rattle.build.specs.Outcome.{gave}

@@ -1,15 +1,15 @@
 -- What `emit` gives in each of its cases. Assumes nothing.
 use native.Mathlib.Omega.{arith}
 use mathlib.Core.Path.{_≡_, refl, sym, ap, _∙_}
-use mathlib.Core.Bool.{Bool, true, false, not, _&&_}
-use mathlib.Core.List.{List, [], _∷_, _++_}
-use Prim.Native.Nat.{ℕ, _+_, _*_, _≤_, _<_}
+use mathlib.Core.Bool.{Bool, true, false, not}
+use mathlib.Core.List.{List}
+use Prim.Native.Nat.{ℕ, _+_, _≤_, _<_}
 use lib.Dec.{eqb, ltb, leb}
 use lib.ListN.{length}
 use borrow.Author.Tests.{not-true, not-false, eq-eqb, ne-eqb, ltb-true, leb-true}
 use Rattle.rules.specs.Words.{over}
 use Rattle.laws.specs.Cases.{first-holds, second-holds}
-use Rattle.build.specs.Emit.{groupRecord, listRecords, Sink, sinkOf, within, counted, written, agrees, emitBy, emit, Placed, Lies, Fits, groupPlace, entryPlace}
+use Rattle.build.specs.Emit.{groupRecord, listRecords, Sink, sinkOf, within, counted, written, agrees, emitBy, emit, Lies, Fits, groupPlace, entryPlace}
 use Rattle.build.specs.declared.Task.{Task}
 use Rattle.build.specs.declared.Tally.{Tally}
 

@@ -2,11 +2,10 @@
 use native.Mathlib.Omega.{arith}
 use native.Mathlib.Nat.{sub-zero}
 use mathlib.Core.Path.{_≡_, refl, sym, ap, _∙_}
-use mathlib.Core.Bool.{Bool, true, false, cond}
+use mathlib.Core.Bool.{Bool, true, false}
 use mathlib.Core.List.{List, [], _∷_, _++_, flatMap}
 use Prim.Native.Nat.{ℕ, zero, suc, _+_, _-_, _≤_, _<_}
-use lib.Dec.{eqb, ltb}
-use lib.ListN.{length, take}
+use lib.ListN.{length}
 use borrow.Author.Tests.{le-ltb, lt-ltb, eq-eqb, ne-eqb}
 use Rattle.rules.specs.Lists.{range, keep, padded}
 use Rattle.rules.specs.Store.{nodesIn}

@@ -6,11 +6,10 @@ use mathlib.Core.Bool.{Bool, true, false, cond, not, _&&_, _||_, false≢true}
 use mathlib.Core.List.{List, [], _∷_, _++_, map}
 use Prim.Native.Nat.{ℕ, zero, suc, _+_, _*_, _≤_, _<_}
 use lib.Dec.{eqb, ltb, leb}
-use lib.ListN.{length}
-use borrow.Author.Tests.{le-ltb, lt-ltb, eq-eqb, ne-eqb, eqb-true, eqb-false}
+use borrow.Author.Tests.{le-ltb, lt-ltb, eq-eqb, ne-eqb}
 use Rattle.rules.specs.Lists.{range, anyFrom, has, setOf, keep}
-use Rattle.rules.specs.Store.{edgesIn, nodesIn, fromAt, toAt, labelAt, valueAt, labelsOf, labelAfter, constraintAlone}
-use Rattle.rules.specs.Graph.{Graph, graphOf, edgeIn, neighbours, labelled}
+use Rattle.rules.specs.Store.{edgesIn, fromAt, toAt, labelsOf, labelAfter, constraintAlone}
+use Rattle.rules.specs.Graph.{graphOf, edgeIn, neighbours, labelled}
 use Rattle.rules.specs.declared.Constraint.{Constraint}
 use Rattle.laws.specs.Sets.{has-set, set-strict}
 use Rattle.laws.specs.Searching.{standsIn, stands-has}

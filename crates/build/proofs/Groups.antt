@@ -4,19 +4,18 @@ use native.Mathlib.Decide.{decLe}
 use mathlib.Core.Path.{_≡_, refl, sym, ap, _∙_, fun-ext}
 use mathlib.Core.Bool.{Bool, true, false, cond, not, _&&_}
 use mathlib.Core.List.{List, [], _∷_, _++_, map, flatMap, append-assoc, append-nil}
-use Prim.Native.Nat.{ℕ, suc, _+_, _≤_, _<_}
+use Prim.Native.Nat.{ℕ, suc, _≤_}
 use lib.Dec.{eqb, leb, ltb}
 use lib.ListN.{length}
-use borrow.Author.Tests.{le-leb, lt-leb, le-ltb, lt-ltb, eq-eqb, ne-eqb}
+use borrow.Author.Tests.{le-leb, lt-leb, le-ltb, lt-ltb, ne-eqb}
 use Rattle.rules.specs.Lists.{all, keep, choices}
 use Rattle.rules.specs.Store.{labelsOf}
 use Rattle.rules.specs.Graph.{Graph, neighbours, labelled}
 use Rattle.rules.specs.Index.{Group, keysOf, listOf, satisfies, directionsOf, entriesOf, groupsOf}
 use Rattle.rules.specs.declared.Constraint.{Constraint}
-use Rattle.rules.specs.declared.Entry.{Entry}
 use Rattle.laws.specs.Keeping.{keep-most}
 use Rattle.build.specs.Keyed.{Keyed, keyedFrom}
-use Rattle.build.proofs.Going.{keyed-short, keyed-here, keyed-on}
+use Rattle.build.proofs.Going.{keyed-short, keyed-on}
 
 -- ---- lists
 module _ {A : Type 0} (p : A → Bool) where

@@ -4,29 +4,28 @@ use native.Mathlib.Decide.{decLe}
 use mathlib.Core.Path.{_≡_, refl, sym, ap, _∙_}
 use mathlib.Core.Bool.{Bool, true, false, not, _&&_, _||_, true≢false}
 use mathlib.Core.List.{List, [], _∷_, _++_, map, flatMap}
-use Prim.Native.Nat.{ℕ, zero, suc, _+_, _-_, _*_, _/_, _≤_, _<_}
-use lib.Dec.{eqb, leb, ltb}
+use Prim.Native.Nat.{ℕ, zero, suc, _+_, _-_, _*_, _≤_, _<_}
+use lib.Dec.{eqb, ltb}
 use lib.ListN.{length, length-map, length-append}
-use borrow.Author.Tests.{le-leb, lt-leb, le-ltb, lt-ltb, eq-eqb, ne-eqb, ltb-true, eqb-true, eqb-false}
-use Rattle.rules.specs.Words.{part}
-use Rattle.rules.specs.Lists.{range, allFrom, all, sum, keep}
-use Rattle.rules.specs.Store.{nodeCount, edgeCount, constraintCount, edgesAt, constraintsAt, groupsAt, nodePart, edgePart, constraintPart, nodesIn, edgesIn, constraintsIn, constraintAt, fromAt, toAt}
-use Rattle.rules.specs.Store.{headerRight, recordsRight, nodesRight, edgesRight, edgeRight, edgeAlone, edgeBefore, constraintsRight, constraintRight, constraintAlone, alike, labelsOf}
-use Rattle.rules.specs.Graph.{Graph, graphOf, storeGraph, neighbours, labelled, edgeIn}
-use Rattle.rules.specs.Index.{Group, satisfies, groupsOf, indexOf, entryTotal, storeIndex, exceeds, tooMany, directionsOf}
+use borrow.Author.Tests.{le-ltb, lt-ltb, eq-eqb, ne-eqb, ltb-true}
+use Rattle.rules.specs.Lists.{range, allFrom, all, sum}
+use Rattle.rules.specs.Store.{nodeCount, edgeCount, constraintCount, edgesAt, constraintsAt, nodePart, edgePart, constraintPart, nodesIn, edgesIn, constraintsIn, constraintAt, fromAt, toAt}
+use Rattle.rules.specs.Store.{headerRight, recordsRight, nodesRight, edgesRight, edgeRight, edgeAlone, edgeBefore, constraintsRight, constraintRight, constraintAlone, alike}
+use Rattle.rules.specs.Graph.{Graph, graphOf, storeGraph, neighbours, labelled}
+use Rattle.rules.specs.Index.{satisfies, groupsOf, indexOf, entryTotal, storeIndex, exceeds, tooMany, directionsOf}
 use Rattle.rules.specs.declared.Constraint.{Constraint}
 use Rattle.rules.specs.declared.Entry.{Entry}
 use Rattle.laws.specs.Cases.{first-holds, second-holds}
 use Rattle.laws.specs.Header.{header-limits, header-ends}
-use Rattle.build.specs.Packed.{EdgesBelow, wordIn, labelledIn}
-use Rattle.build.specs.Keyed.{Keyed, keyedFrom, labelsLeft}
-use Rattle.build.specs.Emit.{Sink, sinkOf, Placed}
+use Rattle.build.specs.Packed.{EdgesBelow, labelledIn}
+use Rattle.build.specs.Keyed.{keyedFrom, labelsLeft}
+use Rattle.build.specs.Emit.{sinkOf, Placed}
 use Rattle.build.specs.Pass.{aboveFor, keyedBy, joinedSet, forwardSet, Sound, Right, nothing, passed}
 use Rattle.build.specs.declared.Task.{Task}
 use Rattle.build.specs.declared.Tally.{Tally}
 use Rattle.build.proofs.Groups.{keyedIn, toGroup, groups-of, satisfies-keyed, map-append, map-map}
-use Rattle.build.proofs.Graphs.{graph-edges, graph-joined, graph-labelled, labels-of}
-use Rattle.build.proofs.Items.{Item, item, listIn, total, emitItems, itemsFrom, visited-items, groupFor, Told, count-fits, count-over}
+use Rattle.build.proofs.Graphs.{graph-joined, graph-labelled, labels-of}
+use Rattle.build.proofs.Items.{Item, item, listIn, total, emitItems, itemsFrom, visited-items, groupFor, count-fits, count-over}
 use Rattle.build.proofs.Whole.{length-part}
 
 -- what holds at every number holds at one

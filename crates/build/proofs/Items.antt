@@ -3,12 +3,12 @@ use native.Mathlib.Omega.{arith}
 use native.Mathlib.Decide.{decLe}
 use native.Mathlib.Nat.{add-zero}
 use mathlib.Core.Path.{_≡_, refl, sym, ap, _∙_}
-use mathlib.Core.Bool.{Bool, true, false, cond, not, _&&_}
+use mathlib.Core.Bool.{Bool, true, false, cond, _&&_}
 use mathlib.Core.List.{List, [], _∷_, _++_, map, flatMap}
-use Prim.Native.Nat.{ℕ, zero, suc, _+_, _-_, _*_, _≤_, _<_}
-use lib.Dec.{eqb, leb, ltb}
+use Prim.Native.Nat.{ℕ, zero, suc, _+_, _*_, _≤_, _<_}
+use lib.Dec.{leb, ltb}
 use lib.ListN.{length, length-map, length-append}
-use borrow.Author.Tests.{le-leb, lt-leb, le-ltb, lt-ltb, eq-eqb, ne-eqb, leb-true}
+use borrow.Author.Tests.{le-leb, lt-leb, le-ltb, lt-ltb, leb-true}
 use Rattle.rules.specs.Lists.{range, foldFrom, padded, all}
 use Rattle.laws.specs.Cases.{first-holds, second-holds}
 use Rattle.rules.specs.Store.{constraintsIn, constraintAt}
@@ -25,7 +25,7 @@ use Rattle.build.specs.declared.Task.{Task}
 use Rattle.build.specs.declared.Tally.{Tally}
 use Rattle.build.proofs.Records.{length-records}
 use Rattle.build.proofs.Groups.{toGroup}
-use Rattle.build.proofs.Emitting.{emit-stopped, emit-over, emit-count, emit-write, emit-compare}
+use Rattle.build.proofs.Emitting.{emit-stopped, emit-over, emit-count}
 
 and-none : (a : Bool) → (a && false) ≡ false
 and-none true = refl

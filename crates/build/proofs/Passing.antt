@@ -3,21 +3,20 @@ use native.Mathlib.Omega.{arith}
 use mathlib.Core.Path.{_≡_, refl, sym, ap, _∙_}
 use mathlib.Core.Bool.{Bool, true, false, cond}
 use mathlib.Core.List.{List, [], _∷_, _++_, map, append-assoc}
-use Prim.Native.Nat.{ℕ, suc, _+_, _-_, _*_, _≤_, _<_}
+use Prim.Native.Nat.{ℕ, _+_, _*_, _≤_}
 use lib.Dec.{eqb}
 use lib.ListN.{length, take, drop, replicate, length-append, length-map, length-replicate}
-use lib.Seq.{take-at, take-append-le, take-append-add}
+use lib.Seq.{take-at}
 use borrow.Rule.Slice.PartMut.{putMid}
 use borrow.Author.Tests.{eq-eqb, ne-eqb}
-use Rattle.rules.specs.Lists.{range, sortOf, setOf, padded, keep}
-use Rattle.rules.specs.Store.{edgesIn, nodesIn, constraintsIn, constraintAt, nodePart, edgePart, constraintPart}
+use Rattle.rules.specs.Lists.{range, sortOf, setOf, padded}
+use Rattle.rules.specs.Store.{edgesIn, nodesIn, constraintAt, nodePart, edgePart, constraintPart}
 use Rattle.rules.specs.Index.{noId}
 use Rattle.rules.specs.declared.Constraint.{Constraint}
-use Rattle.rules.specs.declared.Key.{Key}
 use Rattle.laws.specs.Keeping.{keep-most}
-use Rattle.build.specs.Packed.{forwardAt, backwardAt, EdgesBelow, wordIn, hasLabel, labelledIn}
-use Rattle.build.specs.Keyed.{keyedFrom, labelsLeft}
-use Rattle.build.specs.Emit.{Sink, sinkOf, emitAll, idsOf, Placed}
+use Rattle.build.specs.Packed.{EdgesBelow, hasLabel, labelledIn}
+use Rattle.build.specs.Keyed.{labelsLeft}
+use Rattle.build.specs.Emit.{Sink, sinkOf, emitAll, Placed}
 use Rattle.build.specs.Walk.{Fit, Done}
 use Rattle.build.specs.Pass.{forwardSet, joinedSet, aboveFor, taskFor, keyedBy, visited, visitedAll, Ready, Sound, nothing, passed}
 use Rattle.build.specs.declared.Task.{Task}

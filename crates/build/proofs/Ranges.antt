@@ -1,7 +1,7 @@
 -- Laws of `range`, in the words of a loop. Assumes nothing.
 use native.Mathlib.Omega.{arith}
 use mathlib.Core.Path.{_≡_, refl, ap}
-use mathlib.Core.List.{List, [], _∷_}
+use mathlib.Core.List.{[], _∷_}
 use Prim.Native.Nat.{ℕ, zero, suc, _+_, _-_, _≤_, _<_}
 use lib.ListN.{length}
 use Rattle.rules.specs.Lists.{range}

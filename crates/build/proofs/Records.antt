@@ -1,10 +1,9 @@
 -- Writing the bytes of groups and entries: runs written one after another are one run. Assumes nothing.
 use native.Mathlib.Omega.{arith}
-use native.Mathlib.Nat.{add-zero}
 use mathlib.Core.Path.{_≡_, refl, sym, ap, _∙_}
 use mathlib.Core.List.{List, [], _∷_, _++_, flatMap, append-nil}
-use Prim.Native.Nat.{ℕ, _+_, _*_, _≤_, _<_}
-use lib.ListN.{length, take, drop, length-append, drop-of-length-le}
+use Prim.Native.Nat.{ℕ, _+_, _*_, _≤_}
+use lib.ListN.{length, length-append, drop-of-length-le}
 use Rattle.rules.specs.Words.{u32Bytes, encoded, over}
 use Rattle.laws.specs.Over.{over-over, over-nil, length-over}
 use Rattle.build.specs.Emit.{dirsOf, groupRecord, entryRecord, listRecords}

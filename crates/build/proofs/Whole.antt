@@ -4,7 +4,7 @@ use native.Mathlib.Nat.{add-zero}
 use mathlib.Core.Path.{_≡_, refl, sym, ap, _∙_}
 use mathlib.Core.Bool.{Bool, true, false, not, _&&_, false≢true, true≢false}
 use mathlib.Core.List.{List, [], _∷_, _++_, map, flatMap, append-assoc}
-use Prim.Native.Nat.{ℕ, suc, _+_, _-_, _*_, _≤_, _<_}
+use Prim.Native.Nat.{ℕ, suc, _+_, _-_, _*_, _≤_}
 use lib.ListN.{length, take, drop, length-append, length-take, length-drop}
 use lib.Seq.{take-append-le, drop-append-le, take-take, take-append-add, drop-append-add, take-add, drop-at, drop-drop, length-take-le}
 use Rattle.rules.specs.Words.{part, over}
@@ -14,7 +14,7 @@ use Rattle.rules.specs.Index.{groupBytes, entryBytes}
 use Rattle.rules.specs.Answers.{same}
 use Rattle.laws.specs.Over.{over-over, over-nil, length-over}
 use Rattle.laws.specs.Cases.{first-holds, second-holds}
-use Rattle.build.specs.Emit.{groupRecord, listRecords, Sink, sinkOf, within, counted, written, agrees, emit}
+use Rattle.build.specs.Emit.{groupRecord, listRecords, sinkOf, within, counted, written, agrees, emit}
 use Rattle.build.specs.declared.Task.{Task}
 use Rattle.build.specs.declared.Tally.{Tally}
 use Rattle.build.proofs.Records.{length-records}

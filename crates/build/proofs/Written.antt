@@ -1,10 +1,10 @@
 -- The index of a right store, written into a room. Assumes nothing.
 use native.Mathlib.Omega.{arith}
 use native.Mathlib.Decide.{decLe}
-use mathlib.Core.Path.{_≡_, refl, sym, ap, _∙_}
-use mathlib.Core.Bool.{Bool, true, false, _&&_}
-use mathlib.Core.List.{List, [], _∷_, _++_, map, flatMap}
-use Prim.Native.Nat.{ℕ, suc, _+_, _*_, _≤_, _<_}
+use mathlib.Core.Path.{_≡_, refl, ap, _∙_}
+use mathlib.Core.Bool.{Bool, true, _&&_}
+use mathlib.Core.List.{List, [], _∷_, _++_, map}
+use Prim.Native.Nat.{ℕ, _+_, _*_, _≤_}
 use lib.Dec.{leb}
 use lib.ListN.{length, length-append}
 use borrow.Author.Tests.{le-leb}
@@ -16,14 +16,14 @@ use Rattle.rules.specs.Index.{groupBytes, entryBytes, storeIndex, entryTotal}
 use Rattle.laws.specs.Keeping.{all-flat}
 use Rattle.build.specs.Packed.{wordIn, labelledIn}
 use Rattle.build.specs.Keyed.{Keyed, keyedFrom, labelsLeft}
-use Rattle.build.specs.Emit.{Sink, sinkOf, Placed}
-use Rattle.build.specs.Pass.{keyedBy, aboveFor, forwardSet, joinedSet, Right, nothing, passed}
+use Rattle.build.specs.Emit.{sinkOf, Placed}
+use Rattle.build.specs.Pass.{keyedBy, aboveFor, forwardSet, joinedSet, Right, passed}
 use Rattle.build.specs.declared.Task.{Task}
 use Rattle.build.specs.declared.Tally.{Tally}
 use Rattle.build.proofs.Going.{keyed-short, keyed-here, keyed-on}
 use Rattle.build.proofs.Passing.{labels-few}
 use Rattle.build.proofs.Graphs.{graph-edges}
-use Rattle.build.proofs.Items.{Item, item, short, total, emitItems, itemsFrom, Told, groupFor, length-groups, length-entries}
+use Rattle.build.proofs.Items.{item, short, total, itemsFrom, Told, groupFor, length-groups, length-entries}
 use Rattle.build.proofs.Whole.{write-fits}
 use Rattle.build.proofs.Index.{itemsOf, passed-items, index-items, index-length, index-total, right-sound}
 

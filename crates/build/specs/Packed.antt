@@ -1,7 +1,7 @@
 -- Edges as packed words: an edge from u to v is the word u * 65,536 + v. Ids are below 65,536.
-use Prim.Native.Nat.{ℕ, suc, zero, _+_, _*_, _<_}
+use Prim.Native.Nat.{ℕ, _+_, _*_, _<_}
 use mathlib.Core.Bool.{Bool, _&&_}
-use mathlib.Core.List.{List, [], _∷_, map}
+use mathlib.Core.List.{List}
 use lib.Dec.{ltb, eqb}
 use Rattle.rules.specs.Lists.{range, keep}
 use Rattle.rules.specs.Store.{fromAt, toAt, edgesIn, nodesIn, labelAt}

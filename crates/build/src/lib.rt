@@ -12,7 +12,6 @@ use write::put_bytes;
 use write::put_header;
 use write::write_index;
 ghost use mathlib.Core.Path.{_≡_};
-ghost use mathlib.Core.List.{[], _∷_};
 ghost use lib.ListN.{length};
 ghost use Rattle.rules.specs.Words.{over};
 ghost use Rattle.rules.specs.Index.{storeOf};

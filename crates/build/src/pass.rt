@@ -9,7 +9,7 @@ use crate::walk::walk;
 use rules::Constraint;
 use rules::Key;
 ghost use mathlib.Core.Path.{_≡_};
-ghost use Prim.Native.Nat.{_+_, _*_, _≤_, _<_};
+ghost use Prim.Native.Nat.{_*_, _≤_, _<_};
 ghost use lib.ListN.{length, take};
 ghost use Rattle.rules.specs.Store.{edgesIn, constraintsIn, nodePart, edgePart, constraintPart};
 ghost use Rattle.build.specs.Packed.{EdgesBelow};

@@ -7,7 +7,7 @@ use crate::adjacency::shared;
 use crate::emit::emit_one;
 use rules::Key;
 ghost use mathlib.Core.Path.{_≡_};
-ghost use Prim.Native.Nat.{_+_, _≤_, _<_};
+ghost use Prim.Native.Nat.{_+_, _<_};
 ghost use Rattle.build.specs.Walk.{withId, restOf, Fit, Done};
 
 // The key with u as its id number at.

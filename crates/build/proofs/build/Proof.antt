@@ -1,3 +1,4 @@
+-- `build::build` meets its contract. Assumes nothing.
 use borrow.Author.Needs.{needs}
 use native.Mathlib.Omega.{arith}
 use mathlib.Core.Path.{sym, _∙_}
@@ -7,11 +8,6 @@ use Rattle.build.proofs.Built.{gives-one, gives-graph, gives-ten, gives
 use Rattle.build.proofs.Fitted.{fitting, whole-length, small}
 use Rattle.build.proofs.build.Statement.{statement}
 use Rattle.build.proofs.build.Tie as tie
-use Rattle.build.proofs.build.Reads as reads
-use Rattle.build.proofs.build.Lts as lts
-use Rattle.build.proofs.count.count.Reads as count-reads
-use Rattle.build.proofs.write_store.Reads as write-store-reads
-use Rattle.store.proofs.draft_right.Reads as draft-right-reads
 
 draft-right-requires : tie.Need-draft-right-requires
 draft-right-requires c κs = search needs

@@ -1,3 +1,4 @@
+-- `build::write_store` meets its contract. Assumes nothing.
 use borrow.Author.Needs.{needs}
 use native.Mathlib.Omega.{arith}
 use lib.ListN.{length-take, length-drop}
@@ -6,11 +7,6 @@ use Rattle.build.proofs.Written.{index-lengths}
 use Rattle.build.proofs.Built.{draft-ends, store-written}
 use Rattle.build.proofs.write_store.Statement.{statement}
 use Rattle.build.proofs.write_store.Tie as tie
-use Rattle.build.proofs.write_store.Reads as reads
-use Rattle.build.proofs.write_store.Lts as lts
-use Rattle.build.proofs.write.put_bytes.Reads as put-bytes-reads
-use Rattle.build.proofs.write.put_header.Reads as put-header-reads
-use Rattle.build.proofs.write.write_index.Reads as write-index-reads
 
 put-header-requires : tie.Need-put-header-requires
 put-header-requires c κs =

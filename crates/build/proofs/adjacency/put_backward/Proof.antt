@@ -1,8 +1,5 @@
 -- `build::adjacency::put_backward` meets its contract. Filling.antt has the loop's state and its laws. Assumes nothing.
-use native.Mathlib.Omega.{arith}
-use Prim.Native.Nat.{_-_, _≤_}
-use lib.ListN.{length}
-use Rattle.rules.specs.Store.{edgesIn}
+use Prim.Native.Nat.{_-_}
 use Rattle.build.specs.Packed.{backwardAt}
 use Rattle.build.proofs.Filling.{Filling, begun, filled, ended, fill}
 use Rattle.build.proofs.adjacency.put_backward.Statement.{statement}

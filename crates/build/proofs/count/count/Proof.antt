@@ -1,17 +1,9 @@
-use borrow.Author.Needs.{needs}
+-- `build::count::count` meets its contract. Assumes nothing.
 use native.Mathlib.Omega.{arith}
-use mathlib.Core.Path.{_≡_, refl, sym, _∙_}
-use Prim.Native.Nat.{ℕ}
 use Rattle.laws.specs.Header.{header-ends}
 use Rattle.build.proofs.Numbers.{gives-two, gives-three, all-right, gives-four, gives-eleven, gives-none}
 use Rattle.build.proofs.count.count.Statement.{statement}
 use Rattle.build.proofs.count.count.Tie as tie
-use Rattle.build.proofs.count.count.Reads as reads
-use Rattle.build.proofs.count.count.Lts as lts
-use Rattle.build.proofs.count.count_all.Reads as count-all-reads
-use Rattle.build.proofs.count.own_constraints_right.Reads as own-constraints-right-reads
-use Rattle.build.proofs.count.some_exceeds.Reads as some-exceeds-reads
-use Rattle.store.proofs.records_right.Reads as records-right-reads
 
 records-right-requires : tie.Need-records-right-requires
 records-right-requires c κs =

@@ -1,11 +1,9 @@
+-- `build::count::count_all` meets its contract. Assumes nothing.
 use borrow.Author.Needs.{needs}
 use mathlib.Core.Path.{refl}
 use Rattle.build.proofs.Index.{right-sound, placed-count, count-told}
 use Rattle.build.proofs.count.count_all.Statement.{statement}
 use Rattle.build.proofs.count.count_all.Tie as tie
-use Rattle.build.proofs.count.count_all.Reads as reads
-use Rattle.build.proofs.count.count_all.Lts as lts
-use Rattle.build.proofs.pass.pass.Reads as pass-reads
 
 slice-aggregate-pass : tie.Need-slice-aggregate-pass
 slice-aggregate-pass c = search needs

@@ -1,10 +1,7 @@
+-- `build::count::own_constraints_right` meets its contract. Assumes nothing.
 use borrow.Author.Needs.{needs}
 use Rattle.build.proofs.count.own_constraints_right.Statement.{statement}
 use Rattle.build.proofs.count.own_constraints_right.Tie as tie
-use Rattle.build.proofs.count.own_constraints_right.Reads as reads
-use Rattle.build.proofs.count.own_constraints_right.Lts as lts
-use Rattle.store.proofs.constraint_part.Reads as constraint-part-reads
-use Rattle.store.proofs.constraints_right.Reads as constraints-right-reads
 
 constraint-part-requires : tie.Need-constraint-part-requires
 constraint-part-requires c κs = search needs

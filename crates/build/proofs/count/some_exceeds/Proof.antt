@@ -1,11 +1,9 @@
+-- `build::count::some_exceeds` meets its contract. Assumes nothing.
 use borrow.Author.Needs.{needs}
 use mathlib.Core.Path.{refl}
 use Rattle.build.proofs.Index.{right-sound, placed-count, exceeds-told}
 use Rattle.build.proofs.count.some_exceeds.Statement.{statement}
 use Rattle.build.proofs.count.some_exceeds.Tie as tie
-use Rattle.build.proofs.count.some_exceeds.Reads as reads
-use Rattle.build.proofs.count.some_exceeds.Lts as lts
-use Rattle.build.proofs.pass.pass.Reads as pass-reads
 
 slice-aggregate-pass : tie.Need-slice-aggregate-pass
 slice-aggregate-pass c = search needs

@@ -1,13 +1,9 @@
+-- `build::emit::emit_one` meets its contract. Assumes nothing.
 use borrow.Author.Needs.{needs}
 use Rattle.build.proofs.Emitting.{emit-stopped, emit-over, group-within, entries-within, fits, emit-count, emit-write, emit-compare}
 use Rattle.build.proofs.emit.emit_one.Statement.{statement}
 use Rattle.build.proofs.emit.emit_one.Tie as tie
 use Rattle.build.proofs.emit.emit_one.Reads as reads
-use Rattle.build.proofs.emit.emit_one.Lts as lts
-use Rattle.build.proofs.emit.is_within.Reads as is-within-reads
-use Rattle.build.proofs.emit.one_agrees.Reads as one-agrees-reads
-use Rattle.build.proofs.emit.one_more.Reads as one-more-reads
-use Rattle.build.proofs.emit.write_one.Reads as write-one-reads
 
 returns : tie.Need-returns
 returns c = emit-stopped _ _ _ _ _ _ _ _ (c .if1 .taken)

@@ -1,13 +1,10 @@
+-- `build::emit::entry_same` meets its contract. Assumes nothing.
 use borrow.Author.Needs.{needs}
 use native.Mathlib.Omega.{arith}
-use Rattle.build.proofs.Records.{length-group, length-entry}
+use Rattle.build.proofs.Records.{length-entry}
 use Rattle.build.proofs.Comparing.{compared}
 use Rattle.build.proofs.emit.entry_same.Statement.{statement}
 use Rattle.build.proofs.emit.entry_same.Tie as tie
-use Rattle.build.proofs.emit.entry_same.Reads as reads
-use Rattle.build.proofs.emit.entry_same.Lts as lts
-use Rattle.build.proofs.emit.bytes_same.Reads as bytes-same-reads
-use Rattle.build.proofs.emit.put_entry.Reads as put-entry-reads
 
 slice-aggregate-put-entry : tie.Need-slice-aggregate-put-entry
 slice-aggregate-put-entry c = search needs

@@ -1,13 +1,10 @@
+-- `build::emit::group_same` meets its contract. Assumes nothing.
 use borrow.Author.Needs.{needs}
 use native.Mathlib.Omega.{arith}
-use Rattle.build.proofs.Records.{length-group, length-entry}
+use Rattle.build.proofs.Records.{length-group}
 use Rattle.build.proofs.Comparing.{compared}
 use Rattle.build.proofs.emit.group_same.Statement.{statement}
 use Rattle.build.proofs.emit.group_same.Tie as tie
-use Rattle.build.proofs.emit.group_same.Reads as reads
-use Rattle.build.proofs.emit.group_same.Lts as lts
-use Rattle.build.proofs.emit.bytes_same.Reads as bytes-same-reads
-use Rattle.build.proofs.emit.put_group.Reads as put-group-reads
 
 slice-aggregate-put-group : tie.Need-slice-aggregate-put-group
 slice-aggregate-put-group c = search needs

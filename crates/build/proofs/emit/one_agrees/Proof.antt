@@ -1,11 +1,8 @@
+-- `build::emit::one_agrees` meets its contract. Assumes nothing.
 use borrow.Author.Needs.{needs}
 use Rattle.build.specs.Emit.{agrees}
 use Rattle.build.proofs.emit.one_agrees.Statement.{statement}
 use Rattle.build.proofs.emit.one_agrees.Tie as tie
-use Rattle.build.proofs.emit.one_agrees.Reads as reads
-use Rattle.build.proofs.emit.one_agrees.Lts as lts
-use Rattle.build.proofs.emit.group_agrees.Reads as group-agrees-reads
-use Rattle.build.proofs.emit.list_agrees.Reads as list-agrees-reads
 
 cast-count : tie.Need-cast-count
 cast-count c = search needs

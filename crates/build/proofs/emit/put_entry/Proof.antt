@@ -1,12 +1,8 @@
+-- `build::emit::put_entry` meets its contract. Assumes nothing.
 use borrow.Author.Needs.{needs}
-use Rattle.build.proofs.Records.{one-entry, six-words}
+use Rattle.build.proofs.Records.{one-entry}
 use Rattle.build.proofs.emit.put_entry.Statement.{statement}
 use Rattle.build.proofs.emit.put_entry.Tie as tie
-use Rattle.build.proofs.emit.put_entry.Reads as reads
-use Rattle.build.proofs.emit.put_entry.Lts as lts
-use Rattle.build.proofs.emit.directions.Reads as directions-reads
-use Rattle.build.proofs.emit.put_directions.Reads as put-directions-reads
-use Rattle.words.proofs.put_u32.Reads as put-u32-reads
 
 directions-requires : tie.Need-directions-requires
 directions-requires c κs = search needs

@@ -1,8 +1,7 @@
 -- `build::emit::put_list` meets its contract. Assumes nothing.
 use native.Mathlib.Omega.{arith}
-use mathlib.Core.Path.{_≡_}
 use Prim.Native.Nat.{_+_, _-_, _*_, _≤_}
-use lib.ListN.{length, drop, length-drop, drop-of-length-le}
+use lib.ListN.{length, drop, drop-of-length-le}
 use Rattle.laws.specs.Slices.{drop-next}
 use Rattle.build.specs.Emit.{idsOf}
 use Rattle.build.proofs.Records.{Writing, begun, wrote, ended}

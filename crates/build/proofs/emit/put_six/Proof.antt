@@ -1,10 +1,8 @@
+-- `build::emit::put_six` meets its contract. Assumes nothing.
 use borrow.Author.Needs.{needs}
-use Rattle.build.proofs.Records.{one-entry, six-words}
+use Rattle.build.proofs.Records.{six-words}
 use Rattle.build.proofs.emit.put_six.Statement.{statement}
 use Rattle.build.proofs.emit.put_six.Tie as tie
-use Rattle.build.proofs.emit.put_six.Reads as reads
-use Rattle.build.proofs.emit.put_six.Lts as lts
-use Rattle.words.proofs.put_u32.Reads as put-u32-reads
 
 put-u32-requires : tie.Need-put-u32-requires
 put-u32-requires c κs = search needs

@@ -1,11 +1,8 @@
+-- `build::emit::write_one` meets its contract. Assumes nothing.
 use borrow.Author.Needs.{needs}
 use Rattle.build.proofs.Emitting.{wrote-one}
 use Rattle.build.proofs.emit.write_one.Statement.{statement}
 use Rattle.build.proofs.emit.write_one.Tie as tie
-use Rattle.build.proofs.emit.write_one.Reads as reads
-use Rattle.build.proofs.emit.write_one.Lts as lts
-use Rattle.build.proofs.emit.put_group.Reads as put-group-reads
-use Rattle.build.proofs.emit.put_list.Reads as put-list-reads
 
 cast-at : tie.Need-cast-at
 cast-at c = search needs

@@ -1,14 +1,11 @@
+-- `build::pass::forward_words` meets its contract. Assumes nothing.
 use borrow.Author.Needs.{needs}
 use native.Mathlib.Omega.{arith}
 use lib.ListN.{length-take}
-use Rattle.build.specs.Pass.{forwardSet, joinedSet}
+use Rattle.build.specs.Pass.{forwardSet}
 use Rattle.build.proofs.Passing.{set-front, front}
 use Rattle.build.proofs.pass.forward_words.Statement.{statement}
 use Rattle.build.proofs.pass.forward_words.Tie as tie
-use Rattle.build.proofs.pass.forward_words.Reads as reads
-use Rattle.build.proofs.pass.forward_words.Lts as lts
-use Rattle.build.proofs.adjacency.put_forward.Reads as put-forward-reads
-use Rattle.order.proofs.to_set.Reads as to-set-reads
 
 put-forward-requires : tie.Need-put-forward-requires
 put-forward-requires c κs = search needs

@@ -1,16 +1,11 @@
+-- `build::pass::own_forward` meets its contract. Assumes nothing.
 use borrow.Author.Needs.{needs}
 use native.Mathlib.Nat.{le-trans}
-use mathlib.Core.Path.{_≡_, refl, ap, _∙_}
-use Prim.Native.Nat.{_≤_}
-use lib.ListN.{length, length-take}
-use Rattle.build.specs.Pass.{forwardSet, joinedSet}
-use Rattle.build.proofs.Passing.{edges-fit, new-fits, ready-own, own-done, pass-done}
+use mathlib.Core.Path.{ap, _∙_}
+use Rattle.build.specs.Pass.{forwardSet}
+use Rattle.build.proofs.Passing.{edges-fit, new-fits}
 use Rattle.build.proofs.pass.own_forward.Statement.{statement}
 use Rattle.build.proofs.pass.own_forward.Tie as tie
-use Rattle.build.proofs.pass.own_forward.Reads as reads
-use Rattle.build.proofs.pass.own_forward.Lts as lts
-use Rattle.build.proofs.pass.forward_words.Reads as forward-words-reads
-use Rattle.store.proofs.edge_part.Reads as edge-part-reads
 
 edge-part-requires : tie.Need-edge-part-requires
 edge-part-requires c κs = search needs

@@ -1,17 +1,10 @@
+-- `build::pass::pass` meets its contract. Assumes nothing.
 use borrow.Author.Needs.{needs}
 use native.Mathlib.Omega.{arith}
-use mathlib.Core.Path.{_≡_, refl, ap, _∙_}
-use Prim.Native.Nat.{_≤_}
-use lib.ListN.{length, length-take}
-use Rattle.build.specs.Pass.{forwardSet, joinedSet}
-use Rattle.build.proofs.Passing.{edges-fit, new-fits, ready-own, own-done, pass-done}
+use lib.ListN.{length-take}
+use Rattle.build.proofs.Passing.{new-fits, pass-done}
 use Rattle.build.proofs.pass.pass.Statement.{statement}
 use Rattle.build.proofs.pass.pass.Tie as tie
-use Rattle.build.proofs.pass.pass.Reads as reads
-use Rattle.build.proofs.pass.pass.Lts as lts
-use Rattle.build.proofs.pass.own_forward.Reads as own-forward-reads
-use Rattle.build.proofs.pass.own_joined.Reads as own-joined-reads
-use Rattle.build.proofs.pass.pass_over.Reads as pass-over-reads
 
 slice-aggregate-own-forward : tie.Need-slice-aggregate-own-forward
 slice-aggregate-own-forward c = search needs

@@ -1,17 +1,8 @@
+-- `build::pass::pass_over` meets its contract. Assumes nothing.
 use borrow.Author.Needs.{needs}
-use native.Mathlib.Omega.{arith}
-use mathlib.Core.Path.{_≡_, refl, ap, _∙_}
-use Prim.Native.Nat.{_≤_}
-use lib.ListN.{length, length-take}
-use Rattle.build.specs.Pass.{forwardSet, joinedSet}
-use Rattle.build.proofs.Passing.{edges-fit, new-fits, ready-own, own-done, pass-done}
+use Rattle.build.proofs.Passing.{new-fits, ready-own, own-done}
 use Rattle.build.proofs.pass.pass_over.Statement.{statement}
 use Rattle.build.proofs.pass.pass_over.Tie as tie
-use Rattle.build.proofs.pass.pass_over.Reads as reads
-use Rattle.build.proofs.pass.pass_over.Lts as lts
-use Rattle.build.proofs.pass.visit_all.Reads as visit-all-reads
-use Rattle.store.proofs.constraint_part.Reads as constraint-part-reads
-use Rattle.store.proofs.node_part.Reads as node-part-reads
 
 node-part-requires : tie.Need-node-part-requires
 node-part-requires c κs = search needs

@@ -1,5 +1,4 @@
 -- `build::pass::task_for` meets its contract. Assumes nothing.
-use borrow.Author.Needs.{needs}
 use Rattle.build.proofs.Passing.{above-none, above-most}
 use Rattle.build.proofs.pass.task_for.Statement.{statement}
 use Rattle.build.proofs.pass.task_for.Tie as tie

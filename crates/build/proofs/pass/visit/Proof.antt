@@ -1,3 +1,4 @@
+-- `build::pass::visit` meets its contract. Assumes nothing.
 use borrow.Author.Needs.{needs}
 use native.Mathlib.Omega.{arith}
 use mathlib.Core.Path.{refl}
@@ -5,12 +6,6 @@ use lib.ListN.{length-take}
 use Rattle.build.proofs.Passing.{fit-start, visit-done}
 use Rattle.build.proofs.pass.visit.Statement.{statement}
 use Rattle.build.proofs.pass.visit.Tie as tie
-use Rattle.build.proofs.pass.visit.Reads as reads
-use Rattle.build.proofs.pass.visit.Lts as lts
-use Rattle.build.proofs.adjacency.labelled.Reads as labelled-reads
-use Rattle.build.proofs.pass.task_for.Reads as task-for-reads
-use Rattle.build.proofs.walk.walk.Reads as walk-reads
-use Rattle.store.proofs.constraint_at.Reads as constraint-at-reads
 
 constraint-at-requires : tie.Need-constraint-at-requires
 constraint-at-requires c κs = search needs

@@ -1,3 +1,4 @@
+-- `build::pass::visit_all` meets its contract. Assumes nothing.
 use borrow.Author.Needs.{needs}
 use native.Mathlib.Omega.{arith}
 use mathlib.Core.Path.{_≡_, refl, _∙_}
@@ -12,9 +13,6 @@ use Rattle.build.specs.declared.Task.{Task}
 use Rattle.build.proofs.Passing.{ready-same}
 use Rattle.build.proofs.pass.visit_all.Statement.{statement}
 use Rattle.build.proofs.pass.visit_all.Tie as tie
-use Rattle.build.proofs.pass.visit_all.Reads as reads
-use Rattle.build.proofs.pass.visit_all.Lts as lts
-use Rattle.build.proofs.pass.visit.Reads as visit-reads
 
 abbrev Inv-loop : tie.InvT-loop
 Inv-loop task nodes joined words constraints zero₀ one₀ two₀ three₀ store room₀ k t₀ c₀ zero one two three room t c =

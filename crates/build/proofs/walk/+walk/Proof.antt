@@ -1,10 +1,11 @@
+-- `build::walk::walk` meets its contract. Assumes nothing.
 use borrow.Author.Needs.{needs}
 use native.Mathlib.Omega.{arith}
-use mathlib.Core.Path.{_≡_, refl, sym, ap, _∙_}
+use mathlib.Core.Path.{_≡_, refl, sym, _∙_}
 use lib.ListN.{length, length-take}
 use Rattle.build.specs.Walk.{labelsIn}
 use Rattle.build.proofs.Going.{Going, labels-fall, fit-next, begun, skipped, taken, stopped, ended, none, whole}
-use Prim.Native.Nat.{ℕ, _+_, _-_, _≤_, _<_}
+use Prim.Native.Nat.{ℕ, _-_, _<_}
 use borrow.Fn.Kinds.{In}
 use borrow.Fn.PlainCycle.{Measures, is, falls, and}
 use Rattle.build.proofs.walk.walk.Reads as walk

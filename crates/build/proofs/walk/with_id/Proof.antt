@@ -1,7 +1,6 @@
 -- `build::walk::with_id` meets its contract. Assumes nothing.
 use mathlib.Core.Path.{_≡_}
 use Prim.Native.Nat.{ℕ}
-use borrow.Author.Needs.{needs}
 use borrow.Author.Tests.{eq-eqb, ne-eqb}
 use Rattle.rules.specs.declared.Key.{Key}
 use Rattle.build.specs.Walk.{withId}

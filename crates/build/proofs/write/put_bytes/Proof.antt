@@ -1,3 +1,4 @@
+-- `build::write::put_bytes` meets its contract. Assumes nothing.
 use borrow.Author.Needs.{needs}
 use native.Mathlib.Omega.{arith}
 use mathlib.Core.Path.{_≡_, refl}
@@ -7,8 +8,6 @@ use lib.Seq.{paste, paste-zero}
 use Rattle.build.proofs.Built.{byte-next, bytes-done}
 use Rattle.build.proofs.write.put_bytes.Statement.{statement}
 use Rattle.build.proofs.write.put_bytes.Tie as tie
-use Rattle.build.proofs.write.put_bytes.Reads as reads
-use Rattle.build.proofs.write.put_bytes.Lts as lts
 
 abbrev Inv-loop : tie.InvT-loop
 Inv-loop room₀ at bytes i₀ room i = (i ≤ length bytes) × (length room ≡ length room₀) × (room ≡ paste room₀ at bytes i)

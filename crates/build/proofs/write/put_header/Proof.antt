@@ -1,13 +1,8 @@
+-- `build::write::put_header` meets its contract. Assumes nothing.
 use borrow.Author.Needs.{needs}
 use Rattle.build.proofs.Built.{header-written}
 use Rattle.build.proofs.write.put_header.Statement.{statement}
 use Rattle.build.proofs.write.put_header.Tie as tie
-use Rattle.build.proofs.write.put_header.Reads as reads
-use Rattle.build.proofs.write.put_header.Lts as lts
-use Rattle.build.proofs.emit.put_six.Reads as put-six-reads
-use Rattle.store.proofs.constraint_count.Reads as constraint-count-reads
-use Rattle.store.proofs.edge_count.Reads as edge-count-reads
-use Rattle.store.proofs.node_count.Reads as node-count-reads
 
 node-count-requires : tie.Need-node-count-requires
 node-count-requires c κs = search needs

@@ -1,3 +1,4 @@
+-- `build::write::write_index` meets its contract. Assumes nothing.
 use borrow.Author.Needs.{needs}
 use native.Mathlib.Omega.{arith}
 use Rattle.laws.specs.Header.{header-long}
@@ -5,10 +6,6 @@ use Rattle.build.proofs.Index.{right-sound}
 use Rattle.build.proofs.Written.{placed-write, index-written}
 use Rattle.build.proofs.write.write_index.Statement.{statement}
 use Rattle.build.proofs.write.write_index.Tie as tie
-use Rattle.build.proofs.write.write_index.Reads as reads
-use Rattle.build.proofs.write.write_index.Lts as lts
-use Rattle.build.proofs.pass.pass.Reads as pass-reads
-use Rattle.build.proofs.write.groups_at.Reads as groups-at-reads
 
 groups-at-requires : tie.Need-groups-at-requires
 groups-at-requires c κs = header-long _ (c .before .before .pre .0 .header)
