@@ -7,20 +7,23 @@ use mathlib.Core.List.{List, [], _∷_, _++_, map, flatMap}
 use mathlib.Core.Option.{Option, some, none}
 use Prim.Native.Nat.{ℕ, zero, suc, _+_, _*_, _≤_, _<_}
 use lib.Dec.{eqb, ltb}
-use lib.ListN.{length, getD, set}
+use lib.ListN.{length, getD, set, length-append}
 use borrow.Author.Tests.{eq-eqb, ne-eqb, eqb-true, eqb-false, not-true}
 use Rattle.rules.specs.Lists.{range, allFrom, keep, has, choices}
-use Rattle.rules.specs.Store.{constraintsIn, constraintAt, labelsOf}
+use Rattle.rules.specs.Store.{nodesIn, constraintsIn, constraintAt, labelsOf}
 use Rattle.rules.specs.Pattern.{sizeOf, edgesOf, patternLabel, patternFrom, patternTo, joined, patternRight}
-use Rattle.rules.specs.Plan.{rowOf, chosenOf, noFigures, covered, coveredWith, waysBy, figureBy, smaller, smallest, nodeWays, allWays, figuresWith, figuresAfter, nodeRowsFrom, nodeRows, figuresOf, endsOf, otherEnd, endWays, edgeWays, listed, edgeRows, rowsOf, edgeCovered, allCovered}
+use Rattle.rules.specs.Plan.{rowOf, chosenOf, noFigures, covered, coveredWith, waysBy, figureBy, smaller, smallest, nodeWays, allWays, figuresWith, figuresAfter, nodeRowsFrom, nodeRows, figuresOf, endsOf, otherEnd, endWays, edgeWays, listed, edgeRows, rowsOf, edgeCovered, allCovered, bound, rowWords, planWords}
+use Rattle.rules.specs.Listing.{readerOf, nothing, withRows}
+use Rattle.rules.specs.Answers.{gathered}
 use Rattle.rules.specs.declared.Row.{Row}
 use Rattle.rules.specs.declared.Constraint.{Constraint}
 use Rattle.laws.specs.Cases.{first-holds, second-holds}
 use Rattle.laws.specs.Each.{all-each}
 use Rattle.laws.specs.Keeping.{keep-most}
-use Rattle.laws.specs.PatternLaws.{RightPattern, edge-says}
+use Rattle.laws.specs.PatternLaws.{RightPattern, pattern-says, edge-says}
 use Rattle.fetch.specs.Linked.{Picks}
-use Rattle.fetch.specs.Gathering.{EdgeOk, RowOk, nextFigures, nextEdge, RowsOk, Every}
+use Rattle.fetch.specs.Gathering.{rowsIn, EdgeOk, RowOk, nextFigures, nextEdge, RowsOk, figuresSum, Every, Asked}
+use Rattle.fetch.specs.Given.{rows-in}
 use Rattle.fetch.specs.Everyone.{every-map, every-more, every-flat, every-keep, every-tested, every-has, KeyFrom, choices-from}
 
 -- ---- chosen nodes
@@ -275,3 +278,40 @@ module _ (constraints b : List ℕ) (small : sizeOf b ≤ 8) where
       nodes-then (sizeOf b) noFigures (edgeRows constraints b)
       (edges-ok right (figuresOf constraints b) (edgesOf b) 0 (omega arith)
       (second-holds (allFrom (covered (figuresOf constraints b)) 0 (sizeOf b)) (allFrom (edgeCovered constraints b (figuresOf constraints b)) 0 (edgesOf b)) c))
+
+-- ---- what a caller has, from planning's promise: the plan's words in front of the room for them
+words-long : (rows : List Row) → length (flatMap rowWords rows) ≡ length rows * 8
+unfolding flatMap rowWords
+words-long [] = refl
+words-long (r ∷ rows) = length-append (rowWords r) (flatMap rowWords rows) ∙ omega (arith, words-long rows)
+
+module _ (constraints b words rest : List ℕ) (n : ℕ) (written : words ≡ planWords constraints b ++ rest) (count : n ≡ length (rowsOf constraints b)) where
+  pub plan-rows : rowsIn words 0 n ≡ rowsOf constraints b
+  unfolding planWords
+  plan-rows = rw (written, count) (rows-in (rowsOf constraints b) rest)
+
+  -- what is gathered is what the rules gather
+  pub plan-gathers : (nodes groups entries : List ℕ) → withRows (readerOf nodes constraints groups entries) b (rowsIn words 0 n) (nothing b) ≡ gathered nodes constraints groups entries b
+  unfolding gathered
+  plan-gathers nodes groups entries = ap (λ rows. withRows (readerOf nodes constraints groups entries) b rows (nothing b)) plan-rows
+
+  -- the figures sum to T
+  pub plan-sum : figuresSum (rowsIn words 0 n) ≡ bound constraints b
+  unfolding figuresSum bound
+  plan-sum = ap figuresSum plan-rows
+
+  pub plan-asked : (nodes : List ℕ) (size : ℕ) → patternRight b ≡ true → allCovered constraints b ≡ true → bound constraints b ≤ 65536 → nodesIn nodes ≤ 65535 → 2 * bound constraints b ≤ size
+      → Asked nodes constraints b words n size
+  unfolding planWords
+  plan-asked nodes size right covered small ids room =
+      let p = pattern-says b right in
+      let l : length words ≡ length (rowsOf constraints b) * 8 + length rest = ap length written ∙ length-append (flatMap rowWords (rowsOf constraints b)) rest ∙ ap (λ k. k + length rest) (words-long (rowsOf constraints b)) in
+      let s = plan-sum in
+      record {
+        right = right;
+        ids = ids;
+        lent = omega arith;
+        rows = rw plan-rows (plan-ok constraints b (p .header .few) p covered);
+        small = omega arith;
+        room = omega arith;
+      }
