@@ -1,6 +1,7 @@
 -- What building and admitting have to do with each other, in terms of what the two calls promise. Assumes nothing.
 use mathlib.Core.Path.{_≡_, refl, sym, ap, _∙_}
-use mathlib.Core.Bool.{Bool, true, false, _&&_, _||_}
+use mathlib.Core.Bool.{true}
+use mathlib.Core.Logic.{_↔_}
 use mathlib.Core.List.{List, [], _∷_, _++_, append-assoc, append-nil, map, flatMap}
 use Prim.Native.Nat.{ℕ, _+_, _-_, _*_, _≤_}
 use native.Mathlib.Omega.{arith}
@@ -17,10 +18,11 @@ use Rattle.rules.specs.declared.Entry.{Entry}
 use Rattle.laws.specs.Cases.{and-yes}
 use Rattle.laws.specs.Header.{Limits, header-limits, header-ends, draft-header}
 use Rattle.laws.specs.Parts.{length-part}
+use Rattle.demands.specs.Reading.{length-encoded}
 use Rattle.demands.specs.Sections.{Alike, nodes-read, edges-read, constraints-read, groups-read, entries-read, header-right, body-read}
-use Rattle.demands.specs.Sections.{nodes-alike, edges-alike, constraints-alike, graphNumber-alike, storeOf-alike}
+use Rattle.demands.specs.Sections.{nodes-alike, edges-alike, constraints-alike, graphNumber-alike, storeOf-alike, few-groups, few-entries}
 use Rattle.demands.specs.Numbers.{Sound, admitted-sound, sound-admitted, Buildable, answered-buildable, buildable-answered}
-use Rattle.demands.specs.Numbers.{outcome-number, outcome-results, outcome-answered, over-front}
+use Rattle.demands.specs.Numbers.{number-alike, outcome-number, outcome-results, over-front}
 
 -- ---- the draft of a store whose header is right
 module _ (s : List ℕ) (right : headerRight s ≡ true) where
@@ -110,3 +112,150 @@ admitted-built s q room h =
     let zero : buildNumber (draftOf s) room ≡ 0 =
     buildable-answered (draftOf s) room record { right = draft-right s (x .right); graph = draft-graphNumber s (x .right) ∙ x .graph; fits = fits } in
     built-whole (draftOf s) room zero ∙ rw e
+
+-- ---- what the room held
+-- Building does not depend on what the room held: for two rooms of the same length it gives the same number and the same results, and if it answers 0, the first bytes of both rooms, as many as the store has, are the same: those of the store.
+pub record Independent (d a b : List ℕ) : Type 0 where
+  pub number : buildOutcome d a .number ≡ buildOutcome d b .number
+  pub results : buildOutcome d a .results ≡ buildOutcome d b .results
+  pub bytes : buildOutcome d a .number ≡ 0
+      → take (length (storeOf d)) (buildOutcome d a .room) ≡ take (length (storeOf d)) (buildOutcome d b .room)
+
+results-alike : (d a b : List ℕ) → length a ≡ length b → buildOutcome d a .results ≡ buildOutcome d b .results
+unfolding buildOutcome
+results-alike d a b e =
+    outcome-results (buildNumber d a) (length (storeOf d) ∷ []) (storeOf d) [] a b
+    ∙ ap (λ x. outcome x (length (storeOf d) ∷ []) (storeOf d) b [] .results) (number-alike d a b e)
+
+-- on 0 the front of the room is the store
+pub built-front : (d room : List ℕ) → buildNumber d room ≡ 0 → take (length (storeOf d)) (buildOutcome d room .room) ≡ storeOf d
+built-front d room q = ap (λ o. take (length (storeOf d)) (o .room)) (built-whole d room q) ∙ over-front room (storeOf d)
+
+pub built-independent : (d a b : List ℕ) → length a ≡ length b → Independent d a b
+built-independent d a b e =
+    record {
+      number = built-number d a ∙ number-alike d a b e ∙ sym (built-number d b);
+      results = results-alike d a b e;
+      bytes = λ q.
+          let za : buildNumber d a ≡ 0 = sym (built-number d a) ∙ q in
+          let zb : buildNumber d b ≡ 0 = sym (number-alike d a b e) ∙ za in
+          built-front d a za ∙ sym (built-front d b zb);
+    }
+
+-- ---- what building gives
+padded-length : (x : ℕ) (l : List ℕ) → length (padded x l) ≡ 3
+unfolding padded
+padded-length x l = simp (length-take, length-append) (omega arith)
+
+group-length : (start : ℕ) (groups : List Group) → length (groupBytes start groups) ≡ length groups * 24
+unfolding groupBytes
+group-length start [] = refl
+group-length start (x ∷ xs) =
+    let n = length (x .entries) in
+    let words = x .constraint ∷ padded noId (x .key) ++ start ∷ n ∷ [] in
+    let six : length words ≡ 6 = simp length-append (omega (arith, padded-length noId (x .key))) in
+    length-append (encoded words) (groupBytes (start + n) xs) ∙ omega (arith, length-encoded words, group-length (start + n) xs)
+
+list-length : (l : List Entry) → length (listBytes l) ≡ length l * 8
+unfolding listBytes flatMap
+list-length [] = refl
+list-length (x ∷ xs) = omega (arith, list-length xs)
+
+entry-length : (groups : List Group) → length (entryBytes groups) ≡ entryTotal groups * 8
+unfolding entryBytes entryTotal flatMap sum
+entry-length [] = refl
+entry-length (x ∷ xs) =
+    length-append (listBytes (x .entries)) (entryBytes xs) ∙ omega (arith, list-length (x .entries), entry-length xs)
+
+-- the store as a header and what stands under it
+store-split : (d : List ℕ)
+    → storeOf d
+    ≡ header (nodeCount d) (edgeCount d) (constraintCount d) (length (storeIndex d)) (entryTotal (storeIndex d))
+    ++ (part d 48 (groupsAt d) ++ (groupBytes 0 (storeIndex d) ++ entryBytes (storeIndex d)))
+unfolding storeOf
+store-split d = simp append-assoc
+
+-- the store built from bytes with a right header, where none of 2, 3, 4 and 11 is given
+module _ (d : List ℕ) (right : headerRight d ≡ true) (fine : graphNumber d ≡ 0) where
+  index-bytes : List ℕ
+  index-bytes = groupBytes 0 (storeIndex d) ++ entryBytes (storeIndex d)
+
+  -- it has the same nodes, edges and constraints
+  pub store-alike : Alike (storeOf d) d
+  unfolding index-bytes
+  store-alike =
+      let n = nodeCount d in
+      let m = edgeCount d in
+      let k = constraintCount d in
+      let g = length (storeIndex d) in
+      let e = entryTotal (storeIndex d) in
+      let body = part d 48 (groupsAt d) in
+      let hn = limits d right .nodes in
+      let hm = limits d right .edges in
+      let hk = limits d right .constraints in
+      let hg = few-groups d fine in
+      let he = few-entries d fine in
+      let x : Alike (header n m k g e ++ (body ++ index-bytes)) d =
+      record {
+        nodes = nodes-read n m k g e hn hm hk hg he (body ++ index-bytes);
+        edges = edges-read n m k g e hn hm hk hg he (body ++ index-bytes);
+        constraints = constraints-read n m k g e hn hm hk hg he (body ++ index-bytes);
+        body = body-read n m k g e hn hm hk hg he (body ++ index-bytes) body index-bytes refl (body-length d right);
+      } in
+      rw (store-split d) x
+
+  -- and its header is right
+  pub store-right : headerRight (storeOf d) ≡ true
+  store-right =
+      let g = groupBytes 0 (storeIndex d) in
+      let e = entryBytes (storeIndex d) in
+      let body = part d 48 (groupsAt d) in
+      let fills : length (body ++ (g ++ e))
+      ≡ nodeCount d * 8 + edgeCount d * 8 + constraintCount d * 12 + length (storeIndex d) * 24 + entryTotal (storeIndex d) * 8 =
+      length-append body (g ++ e)
+      ∙ omega (arith, length-append g e, body-length d right, group-length 0 (storeIndex d), entry-length (storeIndex d)) in
+      rw (store-split d)
+      (header-right (nodeCount d) (edgeCount d) (constraintCount d) (length (storeIndex d)) (entryTotal (storeIndex d))
+      (limits d right .nodes) (limits d right .edges) (limits d right .constraints) (few-groups d fine) (few-entries d fine) (body ++ (g ++ e)) fills)
+
+  store-sound : Sound (storeOf d)
+  store-sound =
+      record {
+        right = store-right;
+        graph = graphNumber-alike (storeOf d) d store-alike ∙ fine;
+        built = storeOf-alike (storeOf d) d store-alike;
+      }
+
+-- What building gives is admitted: if building answers 0 for a draft and some room, then admitting answers 0 for the store that it writes.
+pub built-store-admitted : (d room : List ℕ) → buildOutcome d room .number ≡ 0 → admitNumber (storeOf d) ≡ 0
+built-store-admitted d room q =
+    let x = answered-buildable d room (sym (built-number d room) ∙ q) in
+    sound-admitted (storeOf d) (store-sound d (draft-header d (x .right)) (x .graph))
+
+-- The same of the bytes as they stand in the room: if building answers 0, then admitting answers 0 for the front of the room, as long as the store.
+pub built-room-admitted : (d room : List ℕ) → buildOutcome d room .number ≡ 0
+    → admitNumber (take (length (storeOf d)) (buildOutcome d room .room)) ≡ 0
+built-room-admitted d room q = rw (built-front d room (sym (built-number d room) ∙ q)) (built-store-admitted d room q)
+
+-- A store that building gives from the store's own nodes, edges and constraints is admitted: if building from the draft of s answers 0 for some room, and the store that it writes is s, then admitting answers 0 for s. The header of s is not assumed to be right.
+pub built-admitted : (s room : List ℕ) → buildOutcome (draftOf s) room .number ≡ 0 → storeOf (draftOf s) ≡ s → admitNumber s ≡ 0
+built-admitted s room q e = rw e at (built-store-admitted (draftOf s) room q)
+
+-- The same from the whole outcome: if building from the draft of s answers 0, gives the length of s and leaves s written over the room, then admitting answers 0 for s.
+pub built-same-admitted : (s room : List ℕ)
+    → buildOutcome (draftOf s) room ≡ record { number = 0; results = length s ∷ []; room = over room 0 s; work = [] }
+    → admitNumber s ≡ 0
+built-same-admitted s room whole =
+    let d = draftOf s in
+    let zero : buildOutcome d room .number ≡ 0 = ap (λ o. o .number) whole in
+    let none : buildNumber d room ≡ 0 = sym (built-number d room) ∙ zero in
+    let both : length (storeOf d) ∷ [] ≡ length s ∷ [] = ap (λ o. o .results) (sym (built-whole d room none) ∙ whole) in
+    let size : length (storeOf d) ≡ length s = cc in
+    let front : take (length (storeOf d)) (over room 0 s) ≡ storeOf d = ap (λ o. take (length (storeOf d)) (o .room)) (sym whole) ∙ built-front d room none in
+    let equal : storeOf d ≡ s = sym front ∙ ap (λ n. take n (over room 0 s)) size ∙ over-front room s in
+    built-admitted s room zero equal
+
+-- A store is admitted exactly when building from its own nodes, edges and constraints gives the same bytes: for every room that holds s, admitting answers 0 for s exactly when building from the draft of s answers 0, gives the length of s and leaves s written over the room.
+pub admitted-exactly : (s room : List ℕ) → length s ≤ length room
+    → (admitNumber s ≡ 0) ↔ (buildOutcome (draftOf s) room ≡ record { number = 0; results = length s ∷ []; room = over room 0 s; work = [] })
+admitted-exactly s room h = (λ q. admitted-built s q room h, built-same-admitted s room)

@@ -3,3 +3,4 @@ pub mod Reading
 pub mod Sections
 pub mod Numbers
 pub mod Admitted
+pub mod Determined

@@ -75,6 +75,13 @@ build-split true true true g n q = (refl, refl, refl)
 build-split true true false g n q = absurd (omega arith)
 build-split true false t g n q = absurd (n refl q)
 
+-- the building number looks at the length of the room alone
+pub number-alike : (d a b : List ℕ) → length a ≡ length b → buildNumber d a ≡ buildNumber d b
+number-alike d a b e =
+    build-tests d a
+    ∙ ap (λ l. buildBy (draftRight d) (eqb (graphNumber d) 0) (leb (length (storeOf d)) l) (graphNumber d)) e
+    ∙ sym (build-tests d b)
+
 -- what a draft is that building answers: header right, 2, 3, 4 and 11 not given, and room for the store
 pub record Buildable (d room : List ℕ) : Type 0 where
   pub right : draftRight d ≡ true

@@ -1,21 +1,21 @@
 -- Bytes under a header that fits them, and what two runs of bytes with the same nodes, edges and constraints have in common. Assumes nothing.
 use mathlib.Core.Path.{_≡_, refl, sym, ap, _∙_}
-use mathlib.Core.Bool.{Bool, true, false, not, _&&_, _||_}
+use mathlib.Core.Bool.{Bool, true, false, not, _&&_, _||_, false≢true}
 use mathlib.Core.List.{List, [], _∷_, _++_, append-assoc}
 use Prim.Native.Nat.{ℕ, _+_, _-_, _*_, _≤_, _<_}
 use native.Mathlib.Nat.{add-zero, add-assoc}
 use native.Mathlib.Omega.{arith}
-use lib.Dec.{eqb, leb}
+use lib.Dec.{eqb, leb, ltb}
 use lib.ListN.{length, getD, take, drop, length-append}
 use lib.Seq.{take-at, drop-at, take-all}
-use borrow.Author.Tests.{eq-eqb, le-leb}
+use borrow.Author.Tests.{eq-eqb, le-leb, ltb-false}
 use Rattle.rules.specs.Words.{u32At, encoded, part}
 use Rattle.rules.specs.Lists.{all, range}
 use Rattle.rules.specs.Store.{nodeCount, edgeCount, constraintCount, groupCount, entryCount, edgesAt, constraintsAt, groupsAt, entriesAt, endAt}
 use Rattle.rules.specs.Store.{countsRight, offsetsRight, wordsRight, headerRight, draftRight, header, nodePart, edgePart, constraintPart}
 use Rattle.rules.specs.Store.{recordsRight, constraintsRight, constraintsIn, constraintAt}
 use Rattle.rules.specs.Graph.{Graph, storeGraph}
-use Rattle.rules.specs.Index.{Group, storeIndex, exceeds, tooMany, satisfies, storeOf}
+use Rattle.rules.specs.Index.{storeIndex, entryTotal, exceeds, tooMany, satisfies, storeOf}
 use Rattle.rules.specs.Answers.{graphNumber}
 use Rattle.laws.specs.Cases.{and-yes}
 use Rattle.laws.specs.Parts.{part-part}
@@ -179,6 +179,31 @@ byTests records constraints exceed many =
 numbered : (s : List ℕ) → graphNumber s ≡ byTests (recordsRight s) (constraintsRight (constraintPart s)) (exceeds s) (tooMany s)
 unfolding graphNumber byTests
 numbered s = refl
+
+few-by : (records constraints exceed many : Bool) → byTests records constraints exceed many ≡ 0 → many ≡ false
+unfolding byTests
+few-by true true false false q = refl
+few-by true true false true q = absurd (omega arith)
+few-by true true true t q = absurd (omega arith)
+few-by true false x t q = absurd (omega arith)
+few-by false c x t q = absurd (omega arith)
+
+or-first : (a b : Bool) → (a || b) ≡ false → a ≡ false
+or-first false b h = refl
+or-first true b h = h
+
+or-second : (a b : Bool) → (a || b) ≡ false → b ≡ false
+or-second false b h = h
+or-second true b h = absurd (false≢true (sym h))
+
+-- where none of 2, 3, 4 and 11 is given, groups and entries are within their limits
+pub few-groups : (s : List ℕ) → graphNumber s ≡ 0 → length (storeIndex s) ≤ 262144
+unfolding tooMany
+few-groups s q = ltb-false _ _ (or-first _ (ltb 1048576 (entryTotal (storeIndex s))) (few-by _ _ _ _ (sym (numbered s) ∙ q)))
+
+pub few-entries : (s : List ℕ) → graphNumber s ≡ 0 → entryTotal (storeIndex s) ≤ 1048576
+unfolding tooMany
+few-entries s q = ltb-false _ _ (or-second (ltb 262144 (length (storeIndex s))) _ (few-by _ _ _ _ (sym (numbered s) ∙ q)))
 
 module _ (a b : List ℕ) (x : Alike a b) where
   pub nodes-alike : nodePart a ≡ nodePart b
