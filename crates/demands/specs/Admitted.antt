@@ -2,26 +2,26 @@
 use mathlib.Core.Path.{_≡_, refl, sym, ap, _∙_}
 use mathlib.Core.Bool.{true}
 use mathlib.Core.Logic.{_↔_}
-use mathlib.Core.List.{List, [], _∷_, _++_, append-assoc, append-nil, map, flatMap}
-use Prim.Native.Nat.{ℕ, _+_, _-_, _*_, _≤_}
+use mathlib.Core.List.{List, [], _∷_, _++_, append-assoc, append-nil, flatMap}
+use Prim.Native.Nat.{ℕ, _+_, _*_, _≤_}
 use native.Mathlib.Omega.{arith}
-use lib.Dec.{eqb, leb, ltb}
-use lib.ListN.{length, take, drop, length-append, length-take}
-use borrow.Author.Tests.{eq-eqb, ltb-false}
-use Rattle.rules.specs.Words.{u32At, u32Bytes, encoded, part, over}
+use lib.ListN.{length, take, length-append, length-take}
+use borrow.Author.Tests.{eq-eqb}
+use Rattle.rules.specs.Words.{encoded, part, over}
 use Rattle.rules.specs.Lists.{sum, padded}
 use Rattle.rules.specs.Store.{nodeCount, edgeCount, constraintCount, groupCount, entryCount, groupsAt, headerRight, draftRight}
 use Rattle.rules.specs.Store.{header, draftOf, nodePart, edgePart, constraintPart, constraintsRight, recordsRight}
 use Rattle.rules.specs.Index.{Group, noId, groupBytes, listBytes, entryBytes, entryTotal, storeIndex, exceeds, tooMany, storeOf}
-use Rattle.rules.specs.Answers.{Outcome, answered, outcome, graphNumber, buildNumber, buildOutcome, admitNumber}
+use Rattle.rules.specs.Answers.{answered, outcome, graphNumber, buildNumber, buildOutcome, admitNumber}
 use Rattle.rules.specs.declared.Entry.{Entry}
 use Rattle.laws.specs.Cases.{and-yes}
 use Rattle.laws.specs.Header.{Limits, header-limits, header-ends, draft-header}
 use Rattle.laws.specs.Parts.{length-part}
 use Rattle.demands.specs.Reading.{length-encoded}
 use Rattle.demands.specs.Sections.{Alike, nodes-read, edges-read, constraints-read, groups-read, entries-read, header-right, body-read}
-use Rattle.demands.specs.Sections.{nodes-alike, edges-alike, constraints-alike, graphNumber-alike, storeOf-alike, few-groups, few-entries}
-use Rattle.demands.specs.Numbers.{Sound, admitted-sound, sound-admitted, Buildable, answered-buildable, buildable-answered}
+use Rattle.demands.specs.Sections.{nodes-alike, edges-alike, constraints-alike, records-alike, exceeds-alike, tooMany-alike, index-alike}
+use Rattle.demands.specs.Sections.{graphNumber-alike, storeOf-alike, few-groups, few-entries}
+use Rattle.demands.specs.Numbers.{Sound, admitted-sound, sound-admitted, answered-buildable, buildable-answered}
 use Rattle.demands.specs.Numbers.{number-alike, outcome-number, outcome-results, over-front}
 
 -- ---- the draft of a store whose header is right
@@ -83,6 +83,22 @@ module _ (s : List ℕ) (right : headerRight s ≡ true) where
   pub draft-constraintPart : constraintPart (draftOf s) ≡ constraintPart s
   draft-constraintPart = constraints-alike (draftOf s) s draft-alike
 
+  -- so are its tests and its index
+  pub draft-recordsRight : recordsRight (draftOf s) ≡ recordsRight s
+  draft-recordsRight = records-alike (draftOf s) s draft-alike
+
+  pub draft-constraintsRight : constraintsRight (constraintPart (draftOf s)) ≡ constraintsRight (constraintPart s)
+  draft-constraintsRight = ap constraintsRight draft-constraintPart
+
+  pub draft-exceeds : exceeds (draftOf s) ≡ exceeds s
+  draft-exceeds = exceeds-alike (draftOf s) s draft-alike
+
+  pub draft-tooMany : tooMany (draftOf s) ≡ tooMany s
+  draft-tooMany = tooMany-alike (draftOf s) s draft-alike
+
+  pub draft-storeIndex : storeIndex (draftOf s) ≡ storeIndex s
+  draft-storeIndex = index-alike (draftOf s) s draft-alike
+
   -- the numbers 2, 3, 4 and 11 are the store's own
   pub draft-graphNumber : graphNumber (draftOf s) ≡ graphNumber s
   draft-graphNumber = graphNumber-alike (draftOf s) s draft-alike
@@ -114,7 +130,7 @@ admitted-built s q room h =
     built-whole (draftOf s) room zero ∙ rw e
 
 -- ---- what the room held
--- Building does not depend on what the room held: for two rooms of the same length it gives the same number and the same results, and if it answers 0, the first bytes of both rooms, as many as the store has, are the same: those of the store.
+-- building from d gives the same number and results for the rooms a and b, and if it answers 0, the same bytes at the front of both, as many as the store has
 pub record Independent (d a b : List ℕ) : Type 0 where
   pub number : buildOutcome d a .number ≡ buildOutcome d b .number
   pub results : buildOutcome d a .results ≡ buildOutcome d b .results
@@ -131,6 +147,7 @@ results-alike d a b e =
 pub built-front : (d room : List ℕ) → buildNumber d room ≡ 0 → take (length (storeOf d)) (buildOutcome d room .room) ≡ storeOf d
 built-front d room q = ap (λ o. take (length (storeOf d)) (o .room)) (built-whole d room q) ∙ over-front room (storeOf d)
 
+-- Building does not depend on what the room held: this is so of any two rooms of the same length, for any draft.
 pub built-independent : (d a b : List ℕ) → length a ≡ length b → Independent d a b
 built-independent d a b e =
     record {
@@ -241,19 +258,20 @@ built-room-admitted d room q = rw (built-front d room (sym (built-number d room)
 pub built-admitted : (s room : List ℕ) → buildOutcome (draftOf s) room .number ≡ 0 → storeOf (draftOf s) ≡ s → admitNumber s ≡ 0
 built-admitted s room q e = rw e at (built-store-admitted (draftOf s) room q)
 
+-- two stores are equal if building answers 0 with the one, and leaves the room, and gives the length, as for the other
+written-same : (d s room : List ℕ) → buildOutcome d room ≡ record { number = 0; results = length s ∷ []; room = over room 0 s; work = [] } → storeOf d ≡ s
+written-same d s room whole =
+    let none : buildNumber d room ≡ 0 = sym (built-number d room) ∙ ap (λ o. o .number) whole in
+    let both : length (storeOf d) ∷ [] ≡ length s ∷ [] = ap (λ o. o .results) (sym (built-whole d room none) ∙ whole) in
+    let size : length (storeOf d) ≡ length s = cc in
+    let front : take (length (storeOf d)) (over room 0 s) ≡ storeOf d = ap (λ o. take (length (storeOf d)) (o .room)) (sym whole) ∙ built-front d room none in
+    sym front ∙ ap (λ n. take n (over room 0 s)) size ∙ over-front room s
+
 -- The same from the whole outcome: if building from the draft of s answers 0, gives the length of s and leaves s written over the room, then admitting answers 0 for s.
 pub built-same-admitted : (s room : List ℕ)
     → buildOutcome (draftOf s) room ≡ record { number = 0; results = length s ∷ []; room = over room 0 s; work = [] }
     → admitNumber s ≡ 0
-built-same-admitted s room whole =
-    let d = draftOf s in
-    let zero : buildOutcome d room .number ≡ 0 = ap (λ o. o .number) whole in
-    let none : buildNumber d room ≡ 0 = sym (built-number d room) ∙ zero in
-    let both : length (storeOf d) ∷ [] ≡ length s ∷ [] = ap (λ o. o .results) (sym (built-whole d room none) ∙ whole) in
-    let size : length (storeOf d) ≡ length s = cc in
-    let front : take (length (storeOf d)) (over room 0 s) ≡ storeOf d = ap (λ o. take (length (storeOf d)) (o .room)) (sym whole) ∙ built-front d room none in
-    let equal : storeOf d ≡ s = sym front ∙ ap (λ n. take n (over room 0 s)) size ∙ over-front room s in
-    built-admitted s room zero equal
+built-same-admitted s room whole = built-admitted s room (ap (λ o. o .number) whole) (written-same (draftOf s) s room whole)
 
 -- A store is admitted exactly when building from its own nodes, edges and constraints gives the same bytes: for every room that holds s, admitting answers 0 for s exactly when building from the draft of s answers 0, gives the length of s and leaves s written over the room.
 pub admitted-exactly : (s room : List ℕ) → length s ≤ length room

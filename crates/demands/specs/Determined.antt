@@ -3,7 +3,7 @@ use mathlib.Core.Path.{_≡_}
 use mathlib.Core.List.{List}
 use Prim.Native.Nat.{ℕ}
 use Rattle.rules.specs.Answers.{Outcome, buildOutcome, admitOutcome, planOutcome, listOutcome}
-use Rattle.laws.specs.Determined.{Promised, determined}
+use Rattle.laws.specs.Determined.{determined}
 
 -- building: two outcomes allowed for the same draft and the same room are equal
 pub building-determined : (draft room : List ℕ) (o p : Outcome) → o ≡ buildOutcome draft room → p ≡ buildOutcome draft room → o ≡ p

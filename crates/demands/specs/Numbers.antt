@@ -1,17 +1,17 @@
 -- What a number given back says of the tests behind it. Assumes nothing.
 use mathlib.Core.Path.{_≡_, refl, sym, ap, _∙_}
 use mathlib.Core.Bool.{Bool, true, false}
-use mathlib.Core.List.{List, [], _∷_, _++_}
-use Prim.Native.Nat.{ℕ, _+_, _≤_}
+use mathlib.Core.List.{List}
+use Prim.Native.Nat.{ℕ, _≤_}
 use native.Mathlib.Omega.{arith}
 use lib.Dec.{eqb, leb}
-use lib.ListN.{length, take, drop}
+use lib.ListN.{length, take}
 use lib.Seq.{take-at}
 use borrow.Author.Tests.{eqb-true, eqb-false, eq-eqb, leb-true, le-leb}
 use Rattle.rules.specs.Words.{over}
-use Rattle.rules.specs.Store.{headerRight, draftRight, recordsRight, constraintsRight, constraintPart}
-use Rattle.rules.specs.Index.{exceeds, tooMany, storeOf}
-use Rattle.rules.specs.Answers.{Outcome, answered, refused, outcome, graphNumber, buildNumber, buildOutcome, same, admitNumber}
+use Rattle.rules.specs.Store.{headerRight, draftRight}
+use Rattle.rules.specs.Index.{storeOf}
+use Rattle.rules.specs.Answers.{Outcome, answered, refused, outcome, graphNumber, buildNumber, same, admitNumber}
 use Rattle.demands.specs.Reading.{same-equal, equal-same}
 
 -- ---- admitting, by its tests

@@ -1,8 +1,9 @@
 -- Reading back what was written: runs of bytes compared, words encoded and read. Assumes nothing.
-use mathlib.Core.Path.{_≡_, refl, sym, ap, _∙_}
-use mathlib.Core.Bool.{Bool, true, false, _&&_, false≢true}
-use mathlib.Core.List.{List, [], _∷_, _++_, append-assoc}
-use Prim.Native.Nat.{ℕ, zero, suc, _+_, _-_, _*_, _/_, _%_, _≤_, _<_}
+use mathlib.Core.Path.{_≡_, refl, _∙_}
+use mathlib.Core.Bool.{true, false≢true}
+use mathlib.Core.Logic.{_↔_}
+use mathlib.Core.List.{List, [], _∷_, _++_}
+use Prim.Native.Nat.{ℕ, zero, suc, _+_, _*_, _/_, _%_, _<_}
 use native.Mathlib.Nat.{add-assoc, div-div-eq-div-mul, mod-add-div', mod-eq-of-lt}
 use native.Mathlib.Omega.{arith}
 use lib.Dec.{eqb}
@@ -13,7 +14,7 @@ use Rattle.rules.specs.Words.{word, u32At, u32Bytes, encoded}
 use Rattle.rules.specs.Answers.{same}
 use Rattle.laws.specs.Cases.{first-holds, second-holds}
 
--- ---- two runs of bytes are the same exactly when they are equal
+-- ---- two runs of bytes compared
 pub same-equal : (a b : List ℕ) → same a b ≡ true → a ≡ b
 unfolding same
 same-equal [] [] h = refl
@@ -31,6 +32,10 @@ same-self (x ∷ a) = rw (eq-eqb x x refl) (same-self a)
 
 pub equal-same : (a b : List ℕ) → a ≡ b → same a b ≡ true
 equal-same a b e = rw e (same-self b)
+
+-- Two runs are the same exactly when they are equal.
+pub same-exactly : (a b : List ℕ) → (same a b ≡ true) ↔ (a ≡ b)
+same-exactly a b = (same-equal a b, equal-same a b)
 
 -- ---- every element of a run is a byte: true of every slice of bytes
 abbrev pub Bytes : List ℕ → Type 0

@@ -1,20 +1,19 @@
 -- Bytes under a header that fits them, and what two runs of bytes with the same nodes, edges and constraints have in common. Assumes nothing.
 use mathlib.Core.Path.{_≡_, refl, sym, ap, _∙_}
-use mathlib.Core.Bool.{Bool, true, false, not, _&&_, _||_, false≢true}
-use mathlib.Core.List.{List, [], _∷_, _++_, append-assoc}
-use Prim.Native.Nat.{ℕ, _+_, _-_, _*_, _≤_, _<_}
-use native.Mathlib.Nat.{add-zero, add-assoc}
+use mathlib.Core.Bool.{Bool, true, false, not, _||_, false≢true}
+use mathlib.Core.List.{List, [], _∷_, _++_}
+use Prim.Native.Nat.{ℕ, _+_, _-_, _*_, _≤_}
 use native.Mathlib.Omega.{arith}
-use lib.Dec.{eqb, leb, ltb}
-use lib.ListN.{length, getD, take, drop, length-append}
-use lib.Seq.{take-at, drop-at, take-all}
+use lib.Dec.{ltb}
+use lib.ListN.{length, take, drop, length-append}
+use lib.Seq.{take-at, drop-at}
 use borrow.Author.Tests.{eq-eqb, le-leb, ltb-false}
-use Rattle.rules.specs.Words.{u32At, encoded, part}
+use Rattle.rules.specs.Words.{u32At, part}
 use Rattle.rules.specs.Lists.{all, range}
 use Rattle.rules.specs.Store.{nodeCount, edgeCount, constraintCount, groupCount, entryCount, edgesAt, constraintsAt, groupsAt, entriesAt, endAt}
-use Rattle.rules.specs.Store.{countsRight, offsetsRight, wordsRight, headerRight, draftRight, header, nodePart, edgePart, constraintPart}
+use Rattle.rules.specs.Store.{countsRight, offsetsRight, wordsRight, headerRight, header, nodePart, edgePart, constraintPart}
 use Rattle.rules.specs.Store.{recordsRight, constraintsRight, constraintsIn, constraintAt}
-use Rattle.rules.specs.Graph.{Graph, storeGraph}
+use Rattle.rules.specs.Graph.{storeGraph}
 use Rattle.rules.specs.Index.{storeIndex, entryTotal, exceeds, tooMany, satisfies, storeOf}
 use Rattle.rules.specs.Answers.{graphNumber}
 use Rattle.laws.specs.Cases.{and-yes}
