@@ -12,7 +12,7 @@ use Rattle.rules.specs.Lists.{sum, padded}
 use Rattle.rules.specs.Store.{nodeCount, edgeCount, constraintCount, groupCount, entryCount, groupsAt, headerRight, draftRight}
 use Rattle.rules.specs.Store.{header, draftOf, nodePart, edgePart, constraintPart, constraintsRight, recordsRight}
 use Rattle.rules.specs.Index.{Group, noId, groupBytes, listBytes, entryBytes, entryTotal, storeIndex, exceeds, tooMany, storeOf}
-use Rattle.rules.specs.Answers.{answered, outcome, graphNumber, buildNumber, buildOutcome, admitNumber}
+use Rattle.rules.specs.Answers.{answered, outcome, graphNumber, buildNumber, buildOutcome, admitNumber, admitOutcome}
 use Rattle.rules.specs.declared.Entry.{Entry}
 use Rattle.laws.specs.Cases.{and-yes}
 use Rattle.laws.specs.Header.{Limits, header-limits, header-ends, draft-header}
@@ -111,6 +111,11 @@ module _ (s : List ℕ) (right : headerRight s ≡ true) where
 pub built-number : (d room : List ℕ) → buildOutcome d room .number ≡ buildNumber d room
 unfolding buildOutcome
 built-number d room = outcome-number (buildNumber d room) (length (storeOf d) ∷ []) (storeOf d) [] room
+
+-- the number of an admitting outcome is the admitting number
+pub admitting-number : (s : List ℕ) → admitOutcome s .number ≡ admitNumber s
+unfolding admitOutcome
+admitting-number s = outcome-number (admitNumber s) [] [] [] []
 
 -- an outcome with the number 0 has the store's length, and the store written over the room
 pub built-whole : (d room : List ℕ) → buildNumber d room ≡ 0
