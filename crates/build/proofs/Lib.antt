@@ -15,3 +15,4 @@ pub mod Numbers
 pub mod Written
 pub mod Built
 pub mod Fitted
+pub mod Admitted

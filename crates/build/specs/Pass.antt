@@ -1,13 +1,15 @@
 -- A pass over all constraints of a graph.
 use Prim.Native.Nat.{ℕ, _+_, _*_, _≤_}
 use mathlib.Core.Path.{_≡_}
-use mathlib.Core.Bool.{cond, true, false}
+use mathlib.Core.Bool.{Bool, cond, true, false, _&&_}
 use mathlib.Core.List.{List, [], _++_, map}
 use lib.Dec.{eqb}
 use lib.ListN.{length}
 use Rattle.rules.specs.Lists.{range, foldFrom, setOf}
 use Rattle.rules.specs.Store.{edgesIn, nodesIn, constraintsIn, constraintAt, groupsAt, nodePart, edgePart, constraintPart, headerRight, draftRight, recordsRight, constraintsRight}
-use Rattle.rules.specs.Index.{storeIndex, entryTotal}
+use Rattle.rules.specs.Words.{part}
+use Rattle.rules.specs.Index.{storeIndex, entryTotal, groupBytes, entryBytes}
+use Rattle.rules.specs.Answers.{same}
 use Rattle.rules.specs.declared.Constraint.{Constraint}
 use Rattle.build.specs.Packed.{forwardAt, backwardAt, EdgesBelow, wordIn, labelledIn}
 use Rattle.build.specs.Keyed.{Keyed, keyedFrom, labelsLeft}
@@ -85,3 +87,9 @@ pub record Fitting (draft : List ℕ) (g e n : ℕ) : Type 0 where
   pub fewGroups : g ≤ 262144
   pub fewEntries : e ≤ 1048576
   pub fits : length draft + g * 24 + e * 8 ≤ n
+
+-- the groups and entries that stand in a store are those of its index
+unfoldable pub indexSame : List ℕ → ℕ → ℕ → Bool
+indexSame s g e =
+    same (part s (groupsAt s) (groupsAt s + g * 24)) (groupBytes 0 (storeIndex s))
+    && same (part s (groupsAt s + g * 24) (groupsAt s + g * 24 + e * 8)) (entryBytes (storeIndex s))

@@ -103,7 +103,7 @@ fn put_list(words: &[u32], key: Key, list: &[u32], room: &mut [u8], at: usize)
 }
 
 // Whether two runs of bytes are the same.
-fn bytes_same(a: &[u8], b: &[u8]) -> bool
+pub fn bytes_same(a: &[u8], b: &[u8]) -> bool
     ensures { λ r. ⌜ r ≡ same (now (a .entry)) (now (b .entry)) ⌝ }
 {
     let mut i = 0;

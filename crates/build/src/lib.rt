@@ -7,16 +7,22 @@ mod walk;
 mod write;
 
 use count::count;
+use emit::bytes_same;
+use pass::pass;
 use rules::Built;
+use write::groups_at;
 use write::put_bytes;
 use write::put_header;
 use write::write_index;
 ghost use mathlib.Core.Path.{_≡_};
-ghost use lib.ListN.{length};
+ghost use Prim.Native.Nat.{_+_, _*_, _≤_};
+ghost use lib.ListN.{length, take};
 ghost use Rattle.rules.specs.Words.{over};
-ghost use Rattle.rules.specs.Index.{storeOf};
-ghost use Rattle.rules.specs.Answers.{buildOutcome};
-ghost use Rattle.build.specs.Pass.{Fitting};
+ghost use Rattle.rules.specs.Store.{nodeCount, edgeCount, constraintCount, groupsAt, header};
+ghost use Rattle.rules.specs.Index.{storeIndex, entryTotal, storeOf};
+ghost use Rattle.rules.specs.Answers.{same, buildOutcome, admitNumber};
+ghost use Rattle.laws.specs.Header.{Limits};
+ghost use Rattle.build.specs.Pass.{Right, Fitting, indexSame};
 ghost use Rattle.build.specs.Outcome.{gave};
 
 // What a walk over the keys of a constraint is for: mode 0 counts, 1 writes, any other compares; lists longer than `above`, and how many at most.
@@ -82,4 +88,56 @@ pub fn build(draft: &[u8], room: &mut [u8]) -> Built
         number: 0,
         length: total as u32,
     }
+}
+
+// Whether the header of a store with these counts is the one that s has.
+fn header_same(s: &[u8], groups: u32, entries: u32) -> bool
+    requires { ⌜ (48 ≤ length (now s)) × (Limits (now s) × ((groups ≤ 262144) × (entries ≤ 1048576))) ⌝ }
+    ensures { λ r. ⌜ r ≡ same (header (nodeCount (now (s .entry))) (edgeCount (now (s .entry))) (constraintCount (now (s .entry))) groups entries) (take 48 (now (s .entry))) ⌝ }
+{
+    let mut own = [0u8; 48];
+    put_header(s, groups, entries, &mut own);
+    bytes_same(&own, &s[..48])
+}
+
+// Whether the groups and entries of s are those of its index, of which there are so many.
+fn index_same(s: &[u8], groups: u32, entries: u32) -> bool
+    requires { ⌜ Right (now s) × ((groups ≡ length (storeIndex (now s))) × ((entries ≡ entryTotal (storeIndex (now s))) × (groupsAt (now s) + groups * 24 + entries * 8 ≤ length (now s)))) ⌝ }
+    ensures { λ r. ⌜ r ≡ indexSame (now (s .entry)) groups entries ⌝ }
+{
+    let table = groups_at(s);
+    let task = Task {
+        mode: 2,
+        above: 0,
+        groups: groups,
+        entries: entries,
+        table: table,
+        lists: table + groups as usize * 24,
+    };
+    let mut none = [0u8; 1];
+    let t = pass(task, s, s, &mut none);
+    !t.stopped
+}
+
+// Admits a store: 0, or the number of the first refusal.
+pub fn admit(s: &[u8]) -> u32
+    ensures { λ r. ⌜ r ≡ admitNumber (now (s .entry)) ⌝ }
+{
+    if !store::header_right(s) {
+        return 1;
+    }
+    let c = count(s);
+    if c.number == 11 {
+        return 5;
+    }
+    if c.number != 0 {
+        return c.number;
+    }
+    if !header_same(s, c.groups, c.entries) {
+        return 5;
+    }
+    if !index_same(s, c.groups, c.entries) {
+        return 5;
+    }
+    0
 }
