@@ -2,27 +2,26 @@
 use native.Mathlib.Omega.{arith}
 use native.Mathlib.Numerals.{add-one}
 use mathlib.Core.Path.{_≡_, refl, sym, ap, _∙_}
-use mathlib.Core.Bool.{Bool, true, false, cond, not, _&&_, _||_, true≢false, false≢true}
+use mathlib.Core.Bool.{Bool, true, false, cond, not}
 use mathlib.Core.List.{List, [], _∷_, _++_, map, flatMap}
 use mathlib.Core.Option.{Option, some, none}
 use Prim.Native.Nat.{ℕ, zero, suc, _+_, _*_, _≤_, _<_}
 use lib.Dec.{eqb, ltb}
-use lib.ListN.{length, getD, set, length-append}
-use borrow.Author.Tests.{eq-eqb, ne-eqb, eqb-true, eqb-false, not-true}
+use lib.ListN.{length, set, length-append}
+use borrow.Author.Tests.{eq-eqb, ne-eqb, eqb-false, not-true}
 use Rattle.rules.specs.Lists.{range, allFrom, keep, has, choices}
 use Rattle.rules.specs.Store.{nodesIn, constraintsIn, constraintAt, labelsOf}
-use Rattle.rules.specs.Pattern.{sizeOf, edgesOf, patternLabel, patternFrom, patternTo, joined, patternRight}
+use Rattle.rules.specs.Pattern.{sizeOf, edgesOf, patternLabel, patternFrom, patternTo, patternRight}
 use Rattle.rules.specs.Plan.{rowOf, chosenOf, noFigures, covered, coveredWith, waysBy, figureBy, smaller, smallest, nodeWays, allWays, figuresWith, figuresAfter, nodeRowsFrom, nodeRows, figuresOf, endsOf, otherEnd, endWays, edgeWays, listed, edgeRows, rowsOf, edgeCovered, allCovered, bound, rowWords, planWords}
 use Rattle.rules.specs.Listing.{readerOf, nothing, withRows}
 use Rattle.rules.specs.Answers.{gathered}
 use Rattle.rules.specs.declared.Row.{Row}
 use Rattle.rules.specs.declared.Constraint.{Constraint}
 use Rattle.laws.specs.Cases.{first-holds, second-holds}
-use Rattle.laws.specs.Each.{all-each}
 use Rattle.laws.specs.Keeping.{keep-most}
 use Rattle.laws.specs.PatternLaws.{RightPattern, pattern-says, edge-says}
 use Rattle.fetch.specs.Linked.{Picks}
-use Rattle.fetch.specs.Gathering.{rowsIn, EdgeOk, RowOk, nextFigures, nextEdge, RowsOk, figuresSum, Every, Asked}
+use Rattle.fetch.specs.Gathering.{rowsIn, RowOk, nextFigures, nextEdge, RowsOk, figuresSum, Every, Asked}
 use Rattle.fetch.specs.Given.{rows-in}
 use Rattle.fetch.specs.Everyone.{every-map, every-more, every-flat, every-keep, every-tested, every-has, KeyFrom, choices-from}
 
