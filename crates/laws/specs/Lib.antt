@@ -23,3 +23,5 @@ pub mod PatternLaws
 pub mod Table
 pub mod Packing
 pub mod Covering
+pub mod PartMembers
+pub mod Matches

@@ -29,7 +29,7 @@ has-keep p z (y ∷ l) = go (ℕ-discrete z y) (p y) refl (has-keep p z l)
     go (no f) true e ih = rw (keep-yes p y l e, ne-eqb z y f) ih
     go (no f) false e ih = rw (keep-no p y l e, ne-eqb z y f) ih
 
-from-lower : (m n : ℕ) (l : List ℕ) → m ≤ n → From n l → From m l
+pub from-lower : (m n : ℕ) (l : List ℕ) → m ≤ n → From n l → From m l
 unfolding From
 from-lower m n [] h f = tt
 from-lower m n (y ∷ l) h f = let k = f .0 in (omega arith, f .1)

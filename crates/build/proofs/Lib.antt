@@ -1,0 +1,17 @@
+pub mod Filling
+pub mod Kept
+pub mod Ranges
+pub mod Records
+pub mod Comparing
+pub mod Emitting
+pub mod Going
+pub mod Passing
+pub mod Groups
+pub mod Graphs
+pub mod Items
+pub mod Whole
+pub mod Index
+pub mod Numbers
+pub mod Written
+pub mod Built
+pub mod Fitted

@@ -1,0 +1,6 @@
+pub mod Packed
+pub mod Keyed
+pub mod Emit
+pub mod Walk
+pub mod Pass
+pub mod Outcome

@@ -1,0 +1,87 @@
+-- A pass over all constraints of a graph.
+use Prim.Native.Nat.{ℕ, _+_, _*_, _≤_}
+use mathlib.Core.Path.{_≡_}
+use mathlib.Core.Bool.{cond, true, false}
+use mathlib.Core.List.{List, [], _++_, map}
+use lib.Dec.{eqb}
+use lib.ListN.{length}
+use Rattle.rules.specs.Lists.{range, foldFrom, setOf}
+use Rattle.rules.specs.Store.{edgesIn, nodesIn, constraintsIn, constraintAt, groupsAt, nodePart, edgePart, constraintPart, headerRight, draftRight, recordsRight, constraintsRight}
+use Rattle.rules.specs.Index.{storeIndex, entryTotal}
+use Rattle.rules.specs.declared.Constraint.{Constraint}
+use Rattle.build.specs.Packed.{forwardAt, backwardAt, EdgesBelow, wordIn, labelledIn}
+use Rattle.build.specs.Keyed.{Keyed, keyedFrom, labelsLeft}
+use Rattle.build.specs.Emit.{Placed, Sink, sinkOf, emitAll}
+use Rattle.build.specs.declared.Task.{Task}
+use Rattle.build.specs.declared.Tally.{Tally}
+
+-- the edges as words, and the edges both ways round
+unfoldable pub forwardSet : List ℕ → List ℕ
+forwardSet edges = setOf (map (forwardAt edges) (range 0 (edgesIn edges)))
+
+unfoldable pub joinedSet : List ℕ → List ℕ
+joinedSet edges = setOf (map (forwardAt edges) (range 0 (edgesIn edges)) ++ map (backwardAt edges) (range 0 (edgesIn edges)))
+
+-- lists longer than this: than N where the task asks for it, else all that are not empty
+unfoldable pub aboveFor : Task → Constraint → ℕ
+aboveFor task d = cond (eqb (task .above) 0) 0 (d .most)
+
+abbrev pub taskFor : Task → Constraint → Task
+taskFor task d = record { mode = task .mode; above = aboveFor task d; groups = task .groups; entries = task .entries; table = task .table; lists = task .lists }
+
+-- the keys of a constraint, with their lists
+unfoldable pub keyedBy : Task → List ℕ → List ℕ → Constraint → List Keyed
+keyedBy task nodes joined d =
+    keyedFrom (wordIn joined) (labelledIn nodes) (aboveFor task d) (labelsLeft (d .first) (d .second) (d .third)) [] (labelledIn nodes (d .label))
+
+-- they are dealt with
+unfoldable pub visited : Task → List ℕ → List ℕ → List ℕ → List ℕ → List ℕ → ℕ → Sink → Sink
+visited task nodes joined words constraints store c s =
+    emitAll (taskFor task (constraintAt constraints c)) words store c s (keyedBy task nodes joined (constraintAt constraints c))
+
+unfoldable pub visitedAll : Task → List ℕ → List ℕ → List ℕ → List ℕ → List ℕ → Sink → Sink
+visitedAll task nodes joined words constraints store s =
+    foldFrom (visited task nodes joined words constraints store) 0 (constraintsIn constraints) s
+
+-- the rooms are long enough
+pub record Ready (task : Task) (nodes constraints a b c d store room : List ℕ) : Type 0 where
+  pub placed : Placed task (length store) (length room)
+  pub few : nodesIn nodes ≤ 65535
+  pub limited : constraintsIn constraints ≤ 32
+  pub zero : 65536 ≤ length a
+  pub one : 65536 ≤ length b
+  pub two : 65536 ≤ length c
+  pub three : 65536 ≤ length d
+
+-- a store whose sections are there and whose edges are below the number of nodes
+pub record Sound (s : List ℕ) : Type 0 where
+  pub long : groupsAt s ≤ length s
+  pub nodes : nodesIn (nodePart s) ≤ 65535
+  pub edges : edgesIn (edgePart s) ≤ 262144
+  pub constraints : constraintsIn (constraintPart s) ≤ 32
+  pub below : EdgesBelow (edgePart s)
+
+-- nothing counted yet
+abbrev pub nothing : Tally
+nothing = record { groups = 0; entries = 0; stopped = false }
+
+-- all groups of a store's graph are dealt with
+unfoldable pub passed : Task → List ℕ → List ℕ → List ℕ → Sink
+passed task s store room =
+    visitedAll task (nodePart s) (joinedSet (edgePart s)) (forwardSet (edgePart s)) (constraintPart s) store (sinkOf nothing room)
+
+-- a store or draft without refusal 1, 2 or 3
+pub record Right (s : List ℕ) : Type 0 where
+  pub header : headerRight s ≡ true
+  pub records : recordsRight s ≡ true
+  pub constraints : constraintsRight (constraintPart s) ≡ true
+
+-- a draft whose store has so many groups and entries, and fits into n bytes
+pub record Fitting (draft : List ℕ) (g e n : ℕ) : Type 0 where
+  pub header : draftRight draft ≡ true
+  pub right : Right draft
+  pub groups : g ≡ length (storeIndex draft)
+  pub entries : e ≡ entryTotal (storeIndex draft)
+  pub fewGroups : g ≤ 262144
+  pub fewEntries : e ≤ 1048576
+  pub fits : length draft + g * 24 + e * 8 ≤ n

@@ -1,0 +1,103 @@
+// Refusals 2, 3, 4 and 11, and how many groups and entries the index has.
+use crate::Tally;
+use crate::Task;
+use crate::pass::pass;
+ghost use mathlib.Core.Path.{_≡_};
+ghost use mathlib.Core.Bool.{true, false};
+ghost use lib.ListN.{length};
+ghost use Rattle.rules.specs.Store.{constraintPart, constraintsRight, groupsAt, headerRight};
+ghost use Rattle.rules.specs.Index.{exceeds, tooMany, storeIndex, entryTotal};
+ghost use Rattle.rules.specs.Answers.{graphNumber};
+ghost use Rattle.build.specs.Pass.{Right};
+ghost use Prim.Native.Nat.{_≤_};
+
+// The number of refusal, 0 for none, and then how many groups and entries the index has.
+pub struct Counted {
+    pub number: u32,
+    pub groups: u32,
+    pub entries: u32,
+}
+
+// Whether some list of the graph exceeds its N.
+fn some_exceeds(s: &[u8]) -> bool
+    requires { ⌜ Right (now s) ⌝ }
+    ensures { λ r. ⌜ r ≡ exceeds (now (s .entry)) ⌝ }
+{
+    let mut none = [0u8; 1];
+    let task = Task {
+        mode: 0,
+        above: 1,
+        groups: 0,
+        entries: 1048576,
+        table: 0,
+        lists: 0,
+    };
+    let t = pass(task, s, s, &mut none);
+    t.stopped
+}
+
+// Counts the groups and entries of the index, and stops where they are too many.
+fn count_all(s: &[u8]) -> Tally
+    requires { ⌜ Right (now s) ⌝ }
+    ensures { λ r. ⌜ (r .stopped ≡ tooMany (now (s .entry))) × (r .stopped ≡ false → (r .groups ≡ length (storeIndex (now (s .entry)))) × (r .entries ≡ entryTotal (storeIndex (now (s .entry))))) ⌝ }
+{
+    let mut none = [0u8; 1];
+    let task = Task {
+        mode: 0,
+        above: 0,
+        groups: 262144,
+        entries: 1048576,
+        table: 0,
+        lists: 0,
+    };
+    pass(task, s, s, &mut none)
+}
+
+// Whether the constraints of a store are right.
+fn own_constraints_right(s: &[u8]) -> bool
+    requires { ⌜ groupsAt (now s) ≤ length (now s) ⌝ }
+    ensures { λ r. ⌜ r ≡ constraintsRight (constraintPart (now (s .entry))) ⌝ }
+{
+    store::constraints_right(store::constraint_part(s))
+}
+
+// What a store or draft with a right header gives: 2, 3, 4, 11, or 0 and the counts.
+pub fn count(s: &[u8]) -> Counted
+    requires { ⌜ headerRight (now s) ≡ true ⌝ }
+    ensures { λ r. ⌜ (r .number ≡ graphNumber (now (s .entry))) × (r .number ≡ 0 → (r .groups ≡ length (storeIndex (now (s .entry)))) × (r .entries ≡ entryTotal (storeIndex (now (s .entry))))) ⌝ }
+{
+    if !store::records_right(s) {
+        return Counted {
+            number: 2,
+            groups: 0,
+            entries: 0,
+        };
+    }
+    if !own_constraints_right(s) {
+        return Counted {
+            number: 3,
+            groups: 0,
+            entries: 0,
+        };
+    }
+    if some_exceeds(s) {
+        return Counted {
+            number: 4,
+            groups: 0,
+            entries: 0,
+        };
+    }
+    let all = count_all(s);
+    if all.stopped {
+        return Counted {
+            number: 11,
+            groups: 0,
+            entries: 0,
+        };
+    }
+    Counted {
+        number: 0,
+        groups: all.groups,
+        entries: all.entries,
+    }
+}

@@ -1,0 +1,110 @@
+// The walk over the keys of a constraint, one label of S after another.
+use crate::Labels;
+use crate::Tally;
+use crate::Task;
+use crate::adjacency::has_label;
+use crate::adjacency::shared;
+use crate::emit::emit_one;
+use rules::Key;
+ghost use mathlib.Core.Path.{_≡_};
+ghost use Prim.Native.Nat.{_+_, _≤_, _<_};
+ghost use Rattle.build.specs.Walk.{withId, restOf, Fit, Done};
+
+// The key with u as its id number at.
+fn with_id(key: Key, at: u32, u: u32) -> Key
+    ensures { λ r. ⌜ r ≡ withId key at u ⌝ }
+{
+    if at == 0 {
+        return Key {
+            constraint: key.constraint,
+            first: u,
+            second: key.second,
+            third: key.third,
+        };
+    }
+    if at == 1 {
+        return Key {
+            constraint: key.constraint,
+            first: key.first,
+            second: u,
+            third: key.third,
+        };
+    }
+    Key {
+        constraint: key.constraint,
+        first: key.first,
+        second: key.second,
+        third: u,
+    }
+}
+
+// The labels after the first.
+fn rest_of(left: Labels) -> Labels
+    ensures { λ r. ⌜ r ≡ restOf left ⌝ }
+{
+    Labels {
+        first: left.second,
+        second: left.third,
+        third: 0,
+    }
+}
+
+// Goes through the keys that begin with the first `at` ids of `key` and go on with nodes of the labels left; `list` is the list of these ids.
+pub fn walk(
+    task: Task,
+    nodes: &[u8],
+    joined: &[u32],
+    words: &[u32],
+    left: Labels,
+    key: Key,
+    at: u32,
+    list: &[u32],
+    one: &mut [u32],
+    two: &mut [u32],
+    three: &mut [u32],
+    store: &[u8],
+    room: &mut [u8],
+    tally: Tally,
+) -> Tally
+    requires { ⌜ Fit task (now nodes) left key at (now list) (now one) (now two) (now three) (now store) (now room) ⌝ }
+    ensures { λ r. ⌜ Done task (now (nodes .entry)) (now (joined .entry)) (now (words .entry)) left key at (now (list .entry)) (now (store .entry)) tally (now (room .entry)) r (now (room .exit)) ⌝ }
+{
+    if list.len() <= task.above as usize {
+        return tally;
+    }
+    if left.first == 0 {
+        return emit_one(task, words, key, list, store, room, tally);
+    }
+    let n = nodes.len() / 8;
+    let mut none = [0u32; 1];
+    let mut t = tally;
+    let mut u = 0;
+    while u < n {
+        if t.stopped {
+            return t;
+        }
+        let x = u;
+        u += 1;
+        if has_label(nodes, left.first, x) {
+            let k = shared(joined, list, x as u32, one);
+            let next = with_id(key, at, x as u32);
+            t = walk(
+                task,
+                nodes,
+                joined,
+                words,
+                rest_of(left),
+                next,
+                at + 1,
+                &one[..k],
+                two,
+                three,
+                &mut none,
+                store,
+                room,
+                t,
+            );
+        }
+    }
+    t
+}
