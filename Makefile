@@ -1,5 +1,11 @@
 # make run: what there is to see today. make test: everything that must hold; its last line is rt ci's own.
-.PHONY: run test
+.PHONY: run test lib serve boundary bench
+
+# the calls that crate bahrufaz has today, of: build admit plan list
+CALLS =
+
+SERVE = target/boundary/serve
+SERVED = BAHRUFAZ_SERVE="$(CURDIR)/$(SERVE)" BAHRUFAZ_CALLS="$(CALLS)"
 
 run:
 	@rt check rules
@@ -8,4 +14,30 @@ run:
 test:
 	rt fmt --check
 	cargo test --release --offline --quiet --manifest-path tests/Cargo.toml
+	$(MAKE) --no-print-directory boundary
 	rt ci
+
+ifeq ($(strip $(CALLS)),)
+lib serve boundary bench:
+	@echo "$@: crate bahrufaz has no call yet"
+else
+# target/staticlib/libbahrufaz.a, for programs on x86-64 Linux; include/bahrufaz.h says what it has
+lib:
+	rt staticlib bahrufaz
+
+# the program that makes the library's calls for the tests: for x86-64, under an emulator elsewhere
+serve: lib
+	@mkdir -p $(dir $(SERVE))
+	@tools=$$(tests/boundary/tools.sh) && eval "$$tools" && \
+	$$CC -std=c11 -O2 -Wall -Wextra -Werror -static -pthread -Iinclude $(addprefix -DHAVE_,$(shell echo $(CALLS) | tr a-z A-Z)) \
+		tests/boundary/serve.c target/staticlib/libbahrufaz.a -o $(SERVE).x86-64 && \
+	printf '#!/bin/sh\nexec %s "%s"\n' "$$EMULATOR" "$(CURDIR)/$(SERVE).x86-64" >$(SERVE) && chmod +x $(SERVE)
+
+# the library's calls against the second reading; TEST=.. CASE_SEED=.. for one case again
+boundary: serve
+	$(SERVED) cargo test --release --offline --quiet --manifest-path tests/Cargo.toml --test boundary -- --nocapture $(TEST)
+
+# times of the library's calls and of the second reading
+bench: serve
+	$(SERVED) cargo run --release --offline --quiet --manifest-path bench/Cargo.toml
+endif

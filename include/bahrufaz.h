@@ -1,0 +1,75 @@
+/* Bahrufaz: matches of a pattern in a graph store, from the part of the store that its plan names.
+ *
+ * Link with libbahrufaz.a (x86-64 Linux). Every call answers any bytes: none has a condition on what
+ * they say. Calls keep nothing between them, take no memory and start no thread, so they may run at
+ * the same time on rooms of their own.
+ *
+ * What is lent:
+ * - A run is a pointer and its length, counted in its elements: bytes for uint8_t, words for uint32_t.
+ * - A pointer is never null, also where the length is 0. It points to as many elements as said, all
+ *   of them set to something, also in the rooms.
+ * - Bytes may stand at any address; words stand at a multiple of 4.
+ * - A room, and the results, overlap nothing else that the same call is lent. What is lent as const may
+ *   overlap other such, and is not changed.
+ * - Nobody else changes what is lent, or reads a room, before the call is back.
+ *
+ * What is given back: the number, returned; 8 words of results, those beyond the ones named 0; the
+ * rooms. On a refusal (a number other than 0) all results are 0 and the result room is unchanged.
+ * On 0, what lies past the result is unchanged.
+ */
+#ifndef BAHRUFAZ_H
+#define BAHRUFAZ_H
+
+#include <stddef.h>
+#include <stdint.h>
+
+#ifdef __cplusplus
+extern "C" {
+#endif
+
+/* The numbers given back, each exactly when it is said. The calls look in this order:
+ * building 1, 2, 3, 4, 11, 10; admitting 1, 2, 3, 4, 5; planning 1, 3, 6, 7, 8, 10;
+ * listing 1, 3, 6, 7, 8, 9, 5, 10. */
+enum bahrufaz_number {
+    BAHRUFAZ_ANSWERED = 0,   /* answered */
+    BAHRUFAZ_HEADER = 1,     /* header, count limit, offset or length wrong; building only: also g or e not 0 */
+    BAHRUFAZ_RECORD = 2,     /* a node or edge record breaks its rule */
+    BAHRUFAZ_CONSTRAINT = 3, /* a constraint breaks its rule */
+    BAHRUFAZ_LONG_LIST = 4,  /* a list of the graph exceeds its N */
+    BAHRUFAZ_UNFIT = 5,      /* admitting: index differs from the one built, or building would answer 11;
+                                listing: a list read is unfit */
+    BAHRUFAZ_PATTERN = 6,    /* pattern breaks its rules */
+    BAHRUFAZ_UNCOVERED = 7,  /* a pattern node or edge is not covered */
+    BAHRUFAZ_BOUND = 8,      /* T above 65,536 */
+    BAHRUFAZ_WORK = 9,       /* working room below 2T words */
+    BAHRUFAZ_ROOM = 10,      /* room for result too short */
+    BAHRUFAZ_INDEX = 11      /* built index needs too many groups or entries */
+};
+
+/* Writes the store of a draft into the room. Results: its length in bytes.
+ * A store is at most 17,301,928 bytes long. Stack: 6 MiB (6,031,912 bytes were measured on small
+ * drafts); it is to come down to 4 MiB. */
+uint32_t bahrufaz_build(const uint8_t *draft, size_t draft_length, uint8_t *room, size_t room_length,
+                        uint32_t results[8]);
+
+/* Whether building from the store's own nodes, edges and constraints gives the same bytes.
+ * Stack: as building. */
+uint32_t bahrufaz_admit(const uint8_t *store, size_t store_length);
+
+/* Writes the rows of the plan, 8 words each, into the room: 512 words are always enough.
+ * Results: T. Stack: under 64 KiB. */
+uint32_t bahrufaz_plan(const uint8_t *store, size_t store_length, const uint8_t *pattern,
+                       size_t pattern_length, uint32_t *room, size_t room_length, uint32_t results[8]);
+
+/* Writes the matches, a word for each pattern node, into the room. Results: matches, node entries
+ * read, edge entries read, T. Answers 0, 5 and 10 leave the first 2T words of work 0 and the rest
+ * unchanged; any other answer changes none: 131,072 words are always enough. Stack: under 64 KiB. */
+uint32_t bahrufaz_list(const uint8_t *store, size_t store_length, const uint8_t *pattern,
+                       size_t pattern_length, uint32_t *work, size_t work_length, uint32_t *room,
+                       size_t room_length, uint32_t results[8]);
+
+#ifdef __cplusplus
+}
+#endif
+
+#endif
