@@ -1,0 +1,2 @@
+-- What the contracts of the C boundary cite beside the rules. Assumes nothing.
+pub mod Boundary
