@@ -1,0 +1,2 @@
+-- What the contracts of listing cite. Assumes nothing: these are definitions.
+pub mod Listings
