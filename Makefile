@@ -1,7 +1,7 @@
 # make run: what there is to see today. make test: everything that must hold; its last line is rt ci's own.
 .PHONY: run test lib serve boundary bench
 
-# the calls that crate bahrufaz has today, of: build admit plan list
+# the calls of crate bahrufaz that the comparison makes, of: build admit plan list; none is wired in yet
 CALLS =
 
 SERVE = target/boundary/serve
@@ -19,7 +19,7 @@ test:
 
 ifeq ($(strip $(CALLS)),)
 lib serve boundary bench:
-	@echo "$@: crate bahrufaz has no call yet"
+	@echo "$@: no call is wired in yet (CALLS is empty)"
 else
 # target/staticlib/libbahrufaz.a, for programs on x86-64 Linux; include/bahrufaz.h says what it has
 lib:
