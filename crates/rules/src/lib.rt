@@ -59,10 +59,10 @@ pub struct Planned {
     pub bound: u32,
 }
 
-// What listing gives back: the number, then matches, node entries, edge entries and T.
+// What listing gives back: the number, then matches, node entries, edge entries and T. A room may hold more rows than a u32 counts.
 pub struct Listed {
     pub number: u32,
-    pub matches: u32,
+    pub matches: u64,
     pub nodes: u32,
     pub edges: u32,
     pub bound: u32,
