@@ -101,7 +101,7 @@ unfolding flatMap
 words-rows [] ys = refl
 words-rows (x ∷ xs) ys = ap (λ l. rowWords x ++ l) (words-rows xs ys) ∙ sym (append-assoc (rowWords x) (flatMap rowWords xs) (flatMap rowWords ys))
 
-words-length : (xs : List Row) → length (flatMap rowWords xs) ≡ length xs * 8
+pub words-length : (xs : List Row) → length (flatMap rowWords xs) ≡ length xs * 8
 unfolding flatMap rowWords
 words-length [] = refl
 words-length (x ∷ xs) = let ih = words-length xs in omega arith
@@ -174,7 +174,7 @@ number-told constraints b = go (constraintsRight constraints) refl (patternRight
     go true e true f true g true h = rw (e, f, g, h, boundNumber)
 
 -- at most one row for each node and each edge
-node-few : (constraints b : List ℕ) (n : ℕ) (figures : List ℕ) → length (nodeRowsFrom constraints b n figures) ≤ n
+pub node-few : (constraints b : List ℕ) (n : ℕ) (figures : List ℕ) → length (nodeRowsFrom constraints b n figures) ≤ n
 unfolding nodeRowsFrom
 node-few constraints b zero figures = omega arith
 node-few constraints b (suc n) figures = go (smallest (allWays constraints b figures)) (λ next. node-few constraints b n next)
@@ -184,7 +184,7 @@ node-few constraints b (suc n) figures = go (smallest (allWays constraints b fig
     go none ih = omega arith
     go (some r) ih = let k = ih (figuresWith figures r) in omega arith
 
-edge-few : (f : ℕ → Option Row) (k n : ℕ) → length (flatMap (λ j. listed (f j)) (range k n)) ≤ n
+pub edge-few : (f : ℕ → Option Row) (k n : ℕ) → length (flatMap (λ j. listed (f j)) (range k n)) ≤ n
 unfolding flatMap range listed
 edge-few f k zero = omega arith
 edge-few f k (suc n) = go (f k) (edge-few f (k + 1) n)

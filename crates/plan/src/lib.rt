@@ -55,15 +55,29 @@ fn bounded(constraints: &[u8], b: &[u8], t: [[bool; 8]; 8]) -> PlanRows
     }
 }
 
-// The plan of right constraints and a right pattern, or 7 or 8.
+// How many words the rows of a pattern take.
+fn rows_length(b: &[u8]) -> usize
+    requires { ⌜ (12 ≤ length (now b)) × ((sizeOf (now b) ≤ 8) × (edgesOf (now b) ≤ 56)) ⌝ }
+    ensures { λ r. ⌜ r ≡ (sizeOf (now (b .entry)) + edgesOf (now (b .entry))) * 8 ⌝ }
+{
+    (pattern::size_of(b) + pattern::edges_of(b)) * 8
+}
+
+// The plan of right constraints and a right pattern, or 7 or 8. Where every node and edge has its row, all are covered.
 fn covered_plan(constraints: &[u8], b: &[u8], t: [[bool; 8]; 8]) -> PlanRows
     requires { ⌜ Given (now constraints) (now b) t ⌝ }
     ensures { λ r. ⌜ r ≡ coveredPlan (now (constraints .entry)) (now (b .entry)) ⌝ }
 {
+    let p = bounded(constraints, b, t);
+    if p.number == 0 {
+        if p.length == rows_length(b) {
+            return p;
+        }
+    }
     if !cover::all_covered(constraints, b, t) {
         return refused(7);
     }
-    bounded(constraints, b, t)
+    p
 }
 
 // The plan for constraints and a pattern, or 3, 6, 7 or 8.
@@ -78,14 +92,6 @@ pub fn plan_of(constraints: &[u8], b: &[u8]) -> PlanRows
         return refused(6);
     }
     covered_plan(constraints, b, pattern::neighbours(b))
-}
-
-// How many words the rows of a pattern take.
-fn rows_length(b: &[u8]) -> usize
-    requires { ⌜ (12 ≤ length (now b)) × ((sizeOf (now b) ≤ 8) × (edgesOf (now b) ≤ 56)) ⌝ }
-    ensures { λ r. ⌜ r ≡ (sizeOf (now (b .entry)) + edgesOf (now (b .entry))) * 8 ⌝ }
-{
-    (pattern::size_of(b) + pattern::edges_of(b)) * 8
 }
 
 // Planning, for any bytes: the number, and T; on 0 the rows are written.

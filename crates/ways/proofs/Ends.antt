@@ -287,6 +287,11 @@ slot-with b figures u label p o r small q e =
     slot-told (figureOf figures) (narrow p (coveredWith b figures u label)) label o r q e (small .most)
     (narrow-positive (figureOf figures) p (coveredWith b figures u label) (all-covered b figures u label))
 
+-- label 0 asks for no node, whatever the best one is
+pub slot-free : (label : ℕ) (o p : Option Row) (r : Slot) → label ≡ 0 → r ≡ slotOf label o → (r ≡ slotOf label p) × (r .figure ≤ 65536)
+unfolding slotOf
+slot-free label o p r z e = let s : r ≡ slotOf label p = e ∙ rw (eq-eqb label 0 z) in (s, rw (e, eq-eqb label 0 z) (omega arith))
+
 -- the best node where o must be chosen if it suits
 module _ (b figures : List ℕ) (u label o : ℕ) (here : o < sizeOf b) (t : Bool) (q : t ≡ suited b figures u label o) where
   pub with-fixed : (x : Option Row) → t ≡ true → x ≡ smallest (cond (suited b figures u label o) (nodeOnly (figureOf figures) o ∷ []) [])

@@ -171,6 +171,9 @@ fn slot_for(b: &[u8], t: [[bool; 8]; 8], figures: [u32; 8], u: usize, label: u16
     requires { ⌜ (Known (now b) t) × ((Small figures) × (u < sizeOf (now b))) ⌝ }
     ensures { λ r. ⌜ (r ≡ slotOf label (least (figureOf figures) (coveredWith (now (b .entry)) figures u label))) × (r .figure ≤ 65536) ⌝ }
 {
+    if label == 0 {
+        return slot_of(label, no_way());
+    }
     slot_of(label, least(b, t, figures, u, label))
 }
 
@@ -311,6 +314,9 @@ fn slot_with(b: &[u8], t: [[bool; 8]; 8], figures: [u32; 8], u: usize, label: u1
     requires { ⌜ (Known (now b) t) × ((Small figures) × ((u < sizeOf (now b)) × (o < sizeOf (now b)))) ⌝ }
     ensures { λ r. ⌜ (r ≡ slotOf label (least (figureOf figures) (narrow o (coveredWith (now (b .entry)) figures u label)))) × (r .figure ≤ 65536) ⌝ }
 {
+    if label == 0 {
+        return slot_of(label, no_way());
+    }
     slot_of(label, least_with(b, t, figures, u, label, o))
 }
 
