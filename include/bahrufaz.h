@@ -61,9 +61,10 @@ uint32_t bahrufaz_admit(const uint8_t *store, size_t store_length);
 uint32_t bahrufaz_plan(const uint8_t *store, size_t store_length, const uint8_t *pattern,
                        size_t pattern_length, uint32_t *room, size_t room_length, uint32_t results[8]);
 
-/* Writes the matches, a word for each pattern node, into the room. Results: matches, node entries
- * read, edge entries read, T. Answers 0, 5 and 10 leave the first 2T words of work 0 and the rest
- * unchanged; any other answer changes none: 131,072 words are always enough. Stack: under 64 KiB. */
+/* Writes the matches, a word for each pattern node, into the room. Results: matches (its upper 32
+ * bits stand in results[4]), node entries read, edge entries read, T. Answers 0, 5 and 10 leave the
+ * first 2T words of work 0 and the rest unchanged; any other answer changes none: 131,072 words are
+ * always enough. Stack: under 64 KiB. */
 uint32_t bahrufaz_list(const uint8_t *store, size_t store_length, const uint8_t *pattern,
                        size_t pattern_length, uint32_t *work, size_t work_length, uint32_t *room,
                        size_t room_length, uint32_t results[8]);
