@@ -2,7 +2,7 @@
 .PHONY: run test lib serve boundary bench
 
 # the calls of crate bahrufaz that the comparison makes, of: build admit plan list; none is wired in yet
-CALLS =
+CALLS = plan list
 
 SERVE = target/boundary/serve
 SERVED = BAHRUFAZ_SERVE="$(CURDIR)/$(SERVE)" BAHRUFAZ_CALLS="$(CALLS)"
@@ -37,7 +37,13 @@ serve: lib
 boundary: serve
 	$(SERVED) cargo test --release --offline --quiet --manifest-path tests/Cargo.toml --test boundary -- --nocapture $(TEST)
 
-# times of the library's calls and of the second reading
+# times of the library's calls and of the second reading; on a processor that the archive is not for, of the same module compiled for it
+ifeq ($(shell uname -m),x86_64)
 bench: serve
 	$(SERVED) cargo run --release --offline --quiet --manifest-path bench/Cargo.toml
+else
+bench:
+	bench/here.sh $(SERVE)-here $(CALLS)
+	BAHRUFAZ_SERVE="$(CURDIR)/$(SERVE)-here" BAHRUFAZ_CALLS="$(CALLS)" cargo run --release --offline --quiet --manifest-path bench/Cargo.toml
+endif
 endif

@@ -14,18 +14,12 @@ fn main() {
         println!("bench: NOT RUN, BAHRUFAZ_SERVE is not set; make bench sets it");
         return;
     };
-    // The library is for x86-64, so elsewhere an emulator runs it.
-    let emulated = std::env::consts::ARCH != "x86_64";
-    if emulated {
-        println!(
-            "The library runs under an emulator here: its times, ratios and growth say NOTHING."
-        );
+    if std::env::consts::ARCH != "x86_64" {
+        println!("The archive is for x86-64; here its LLVM module is compiled for this processor.");
     }
     let calls = [Call::Build, Call::Admit, Call::Plan, Call::List];
     for call in calls.into_iter().filter(|call| call.is_served()) {
-        // An emulated call is slow and its time worthless: once is enough to see that it runs.
         let times = match call {
-            _ if emulated => 1,
             Call::Build | Call::Admit => 5,
             Call::Plan | Call::List => 50,
         };
@@ -59,11 +53,19 @@ fn main() {
             }
             before = ours;
         }
+        if call == Call::Plan {
+            let case = worlds::widest_plan_case();
+            let (time, theirs) =
+                (ours_on(&mut serve, call, &case, times), theirs_on(call, &case, times));
+            println!(
+                "8 nodes, 20 edges, 32 constraints: {:.1} {:.1}, ratio {}",
+                micros(time),
+                micros(theirs),
+                quotient(time, theirs)
+            );
+        }
     }
     serve.end();
-    if emulated {
-        println!("\nUnder an emulator: these times say NOTHING.");
-    }
 }
 
 /// What a call is lent on a panel of this size: planning and listing with each of six patterns.

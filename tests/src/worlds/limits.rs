@@ -118,9 +118,8 @@ pub fn clique_case(nodes: u32) -> Case {
     Case { store: store_of(&world.draft()), pattern, work: 2 * bound, room: 8 * matches, noise: 7 }
 }
 
-/// A world of 32 constraints of all kinds, and a pattern of 4 nodes.
-pub fn thirty_two_case(seed: u64) -> Case {
-    let mut random = Random::new(seed);
+/// A world of 32 constraints of all kinds.
+fn thirty_two_world(random: &mut Random) -> World {
     let mut world = World::default();
     for id in 0..30u32 {
         world.add_node(1 + (id % 5) as u16, random.below(9) as i32);
@@ -142,6 +141,13 @@ pub fn thirty_two_case(seed: u64) -> Case {
     world.constraints.push(ConstraintRule::new(&[1, 2], 3, 6));
     world.constraints.push(ConstraintRule::new(&[1, 2, 3], 4, 6));
     random.shuffle(&mut world.constraints);
+    world
+}
+
+/// A world of 32 constraints of all kinds, and a pattern of 4 nodes.
+pub fn thirty_two_case(seed: u64) -> Case {
+    let mut random = Random::new(seed);
+    let world = thirty_two_world(&mut random);
     let labels = [1, 2, 3, 4];
     let edges: Vec<(u8, u8)> = [(0, 1), (0, 2), (3, 0), (2, 1), (3, 1)]
         .into_iter()
@@ -150,4 +156,14 @@ pub fn thirty_two_case(seed: u64) -> Case {
     let pattern = PatternDraft::plain(&labels, &edges).bytes();
     let store = store_of(&world.draft());
     Case { store, pattern, work: 65_536, room: 8_192, noise: seed }
+}
+
+/// The same with a pattern of 8 nodes and 20 edges.
+pub fn widest_plan_case() -> Case {
+    let world = thirty_two_world(&mut Random::new(1));
+    let edges: Vec<(u8, u8)> =
+        (0..8).flat_map(|from| (from + 1..8).map(move |to| (from, to))).take(20).collect();
+    let pattern = PatternDraft::plain(&[1, 2, 3, 4, 5, 1, 2, 3], &edges).bytes();
+    let store = store_of(&world.draft());
+    Case { store, pattern, work: 0, room: 512, noise: 1 }
 }

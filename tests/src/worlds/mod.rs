@@ -13,7 +13,7 @@ pub use damage::{
 };
 pub use limits::{
     clique_case, exact_index_draft, full_draft, hub_draft, huge_hub_draft, over_limit_stores,
-    thirty_two_case, too_many_entries_draft, too_many_groups_draft,
+    thirty_two_case, too_many_entries_draft, too_many_groups_draft, widest_plan_case,
 };
 pub use panel::{
     panel_draft, panel_empty_patterns, panel_patterns, panel_refused_patterns, PANEL_SIZES,
