@@ -30,4 +30,6 @@ else
     fi
 fi
 echo "boundary: compiled by $compiler, run by ${emulator:-the machine itself}" >&2
-echo "CC=$compiler EMULATOR=$emulator"
+# an emulated 'rep stosb' clears memory byte by byte; without it the C library clears words
+[ -z "$emulator" ] || emulator="$emulator -cpu max,-erms,-fsrm"
+echo "CC=$compiler EMULATOR='$emulator'"
