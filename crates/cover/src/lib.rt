@@ -17,7 +17,7 @@ fn cover(constraints: &[u8], b: &[u8], t: [[bool; 8]; 8]) -> [u32; 8]
     let p = pattern::size_of(b);
     let mut figures = [0u32; 8];
     for i in 0..p {
-        let best = ways::best_way(constraints, b, t, figures);
+        let best = ways::best_way(constraints, b, t, &figures);
         if !best.found {
             return figures;
         }
@@ -60,7 +60,7 @@ fn edge_covered(
     requires { ⌜ (Ready (now constraints) (now b) t figures) × (j < edgesOf (now b)) ⌝ }
     ensures { λ r. ⌜ r ≡ edgeCovered (now (constraints .entry)) (now (b .entry)) figures j ⌝ }
 {
-    let best = ways::best_for_edge(constraints, b, t, figures, j);
+    let best = ways::best_for_edge(constraints, b, t, &figures, j);
     best.found
 }
 

@@ -60,7 +60,7 @@ pub fn node_rows(constraints: &[u8], b: &[u8], t: [[bool; 8]; 8], rows: &mut [u3
     let mut count: usize = 0;
     let mut sum: u64 = 0;
     while count < p {
-        let best = ways::best_way(constraints, b, t, figures);
+        let best = ways::best_way(constraints, b, t, &figures);
         let row = best.row;
         if !best.found {
             return stand_of(figures, count, sum, true);
@@ -94,7 +94,7 @@ pub fn edge_rows(
     let mut sum = s.sum;
     let mut j: usize = 0;
     while j < q {
-        let best = ways::best_for_edge(constraints, b, t, figures, j);
+        let best = ways::best_for_edge(constraints, b, t, &figures, j);
         let row = best.row;
         j += 1;
         if best.found {

@@ -58,6 +58,13 @@ module _ (b figures : List ℕ) (u label w : ℕ) (r : Bool) (q : r ≡ suited b
   unfolding smallest smaller
   only-yes x h e = rw (sym q ∙ h) (ap some e)
 
+  -- the row of node w alone, with its figure told
+  pub only-told : (n : ℕ) → r ≡ true → n ≡ getD figures w 0
+      → _≡_ {A = Option Row} (some (record { kind = 0; number = w; fetched = w; constraint = 0; first = 255; second = 255; third = 255; figure = n }))
+      (smallest (cond (suited b figures u label w) (nodeOnly (figureOf figures) w ∷ []) []))
+  unfolding rowOf
+  only-told n h e = rw e (only-yes (nodeOnly (figureOf figures) w) h refl)
+
   pub only-no : r ≡ false → _≡_ {A = Option Row} none (smallest (cond (suited b figures u label w) (nodeOnly (figureOf figures) w ∷ []) []))
   unfolding smallest
   only-no h = rw (sym q ∙ h)

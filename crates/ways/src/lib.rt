@@ -67,22 +67,36 @@ fn better(a: Best, b: Best) -> Best
     a
 }
 
+// A figure as a u64.
+fn wide(x: u32) -> u64
+    ensures { λ r. ⌜ r ≡ x ⌝ }
+{
+    x as u64
+}
+
 // Whether w is a covered neighbour of u with the label.
-fn suits(b: &[u8], t: [[bool; 8]; 8], figures: [u32; 8], u: usize, label: u16, w: usize) -> bool
+fn suits(b: &[u8], t: [[bool; 8]; 8], figures: &[u32; 8], u: usize, label: u16, w: usize) -> bool
     requires { ⌜ (Known (now b) t) × ((u < sizeOf (now b)) × (w < sizeOf (now b))) ⌝ }
-    ensures { λ r. ⌜ r ≡ suited (now (b .entry)) figures u label w ⌝ }
+    ensures { λ r. ⌜ r ≡ suited (now (b .entry)) (now (figures .entry)) u label w ⌝ }
 {
     (figures[w] != 0) & t[u][w] & (pattern::label(b, w) == label)
 }
 
 // Node w by itself as a way, if it is a covered neighbour of u with the label.
-fn node_only(b: &[u8], t: [[bool; 8]; 8], figures: [u32; 8], u: usize, label: u16, w: usize) -> Best
+fn node_only(
+    b: &[u8],
+    t: [[bool; 8]; 8],
+    figures: &[u32; 8],
+    u: usize,
+    label: u16,
+    w: usize,
+) -> Best
     requires { ⌜ (Known (now b) t) × ((u < sizeOf (now b)) × (w < sizeOf (now b))) ⌝ }
-    ensures { λ r. ⌜ wayIn r ≡ smallest (cond (suited (now (b .entry)) figures u label w) (nodeOnly (figureOf figures) w ∷ []) []) ⌝ }
+    ensures { λ r. ⌜ wayIn r ≡ smallest (cond (suited (now (b .entry)) (now (figures .entry)) u label w) (nodeOnly (figureOf (now (figures .entry))) w ∷ []) []) ⌝ }
 {
     if suits(b, t, figures, u, label, w) {
         let n = w as u32;
-        let figure = figures[w] as u64;
+        let figure = wide(figures[w]);
         let row = Row {
             kind: 0,
             number: n,
@@ -102,9 +116,9 @@ fn node_only(b: &[u8], t: [[bool; 8]; 8], figures: [u32; 8], u: usize, label: u1
 }
 
 // The covered neighbour of u with the label that has the smallest figure.
-fn least(b: &[u8], t: [[bool; 8]; 8], figures: [u32; 8], u: usize, label: u16) -> Best
+fn least(b: &[u8], t: [[bool; 8]; 8], figures: &[u32; 8], u: usize, label: u16) -> Best
     requires { ⌜ (Known (now b) t) × (u < sizeOf (now b)) ⌝ }
-    ensures { λ r. ⌜ wayIn r ≡ least (figureOf figures) (coveredWith (now (b .entry)) figures u label) ⌝ }
+    ensures { λ r. ⌜ wayIn r ≡ least (figureOf (now (figures .entry))) (coveredWith (now (b .entry)) (now (figures .entry)) u label) ⌝ }
 {
     let p = pattern::size_of(b);
     let mut best = no_way();
@@ -167,9 +181,9 @@ fn way_of(own: Row, most: u32, first: Slot, second: Slot, third: Slot) -> Best
 }
 
 // The slot of a label for fetching u.
-fn slot_for(b: &[u8], t: [[bool; 8]; 8], figures: [u32; 8], u: usize, label: u16) -> Slot
-    requires { ⌜ (Known (now b) t) × ((Small figures) × (u < sizeOf (now b))) ⌝ }
-    ensures { λ r. ⌜ (r ≡ slotOf label (least (figureOf figures) (coveredWith (now (b .entry)) figures u label))) × (r .figure ≤ 65536) ⌝ }
+fn slot_for(b: &[u8], t: [[bool; 8]; 8], figures: &[u32; 8], u: usize, label: u16) -> Slot
+    requires { ⌜ (Known (now b) t) × ((Small (now figures)) × (u < sizeOf (now b))) ⌝ }
+    ensures { λ r. ⌜ (r ≡ slotOf label (least (figureOf (now (figures .entry))) (coveredWith (now (b .entry)) (now (figures .entry)) u label))) × (r .figure ≤ 65536) ⌝ }
 {
     if label == 0 {
         return slot_of(label, no_way());
@@ -181,13 +195,13 @@ fn slot_for(b: &[u8], t: [[bool; 8]; 8], figures: [u32; 8], u: usize, label: u16
 fn node_slots(
     b: &[u8],
     t: [[bool; 8]; 8],
-    figures: [u32; 8],
+    figures: &[u32; 8],
     u: usize,
     k: Constraint,
     own: Row,
 ) -> Best
-    requires { ⌜ (Known (now b) t) × ((Small figures) × ((u < sizeOf (now b)) × (k .most ≤ 65535))) ⌝ }
-    ensures { λ r. ⌜ wayIn r ≡ nodeSlots (now (b .entry)) figures u k own ⌝ }
+    requires { ⌜ (Known (now b) t) × ((Small (now figures)) × ((u < sizeOf (now b)) × (k .most ≤ 65535))) ⌝ }
+    ensures { λ r. ⌜ wayIn r ≡ nodeSlots (now (b .entry)) (now (figures .entry)) u k own ⌝ }
 {
     let first = slot_for(b, t, figures, u, k.first);
     let second = slot_for(b, t, figures, u, k.second);
@@ -200,12 +214,12 @@ fn node_way(
     constraints: &[u8],
     b: &[u8],
     t: [[bool; 8]; 8],
-    figures: [u32; 8],
+    figures: &[u32; 8],
     u: usize,
     c: usize,
 ) -> Best
-    requires { ⌜ (Ready (now constraints) (now b) t figures) × ((u < sizeOf (now b)) × (c < constraintsIn (now constraints))) ⌝ }
-    ensures { λ r. ⌜ wayIn r ≡ smallest (nodeBy (now (constraints .entry)) (now (b .entry)) figures u c) ⌝ }
+    requires { ⌜ (Ready (now constraints) (now b) t (now figures)) × ((u < sizeOf (now b)) × (c < constraintsIn (now constraints))) ⌝ }
+    ensures { λ r. ⌜ wayIn r ≡ smallest (nodeBy (now (constraints .entry)) (now (b .entry)) (now (figures .entry)) u c) ⌝ }
 {
     let k = store::constraint_at(constraints, c);
     if pattern::label(b, u) != k.label {
@@ -230,11 +244,11 @@ fn best_for_node(
     constraints: &[u8],
     b: &[u8],
     t: [[bool; 8]; 8],
-    figures: [u32; 8],
+    figures: &[u32; 8],
     u: usize,
 ) -> Best
-    requires { ⌜ (Ready (now constraints) (now b) t figures) × (u < sizeOf (now b)) ⌝ }
-    ensures { λ r. ⌜ wayIn r ≡ smallest (nodeWays (now (constraints .entry)) (now (b .entry)) figures u) ⌝ }
+    requires { ⌜ (Ready (now constraints) (now b) t (now figures)) × (u < sizeOf (now b)) ⌝ }
+    ensures { λ r. ⌜ wayIn r ≡ smallest (nodeWays (now (constraints .entry)) (now (b .entry)) (now (figures .entry)) u) ⌝ }
 {
     let n = constraints.len() / 12;
     let mut best = no_way();
@@ -249,11 +263,11 @@ fn best_if_uncovered(
     constraints: &[u8],
     b: &[u8],
     t: [[bool; 8]; 8],
-    figures: [u32; 8],
+    figures: &[u32; 8],
     u: usize,
 ) -> Best
-    requires { ⌜ (Ready (now constraints) (now b) t figures) × (u < sizeOf (now b)) ⌝ }
-    ensures { λ r. ⌜ wayIn r ≡ smallest (cond (not (covered figures u)) (nodeWays (now (constraints .entry)) (now (b .entry)) figures u) []) ⌝ }
+    requires { ⌜ (Ready (now constraints) (now b) t (now figures)) × (u < sizeOf (now b)) ⌝ }
+    ensures { λ r. ⌜ wayIn r ≡ smallest (cond (not (covered (now (figures .entry)) u)) (nodeWays (now (constraints .entry)) (now (b .entry)) (now (figures .entry)) u) []) ⌝ }
 {
     if figures[u] != 0 {
         return no_way();
@@ -262,9 +276,9 @@ fn best_if_uncovered(
 }
 
 // The best way of all uncovered nodes.
-pub fn best_way(constraints: &[u8], b: &[u8], t: [[bool; 8]; 8], figures: [u32; 8]) -> Best
-    requires { ⌜ (Ready (now constraints) (now b) t figures) ⌝ }
-    ensures { λ r. ⌜ wayIn r ≡ smallest (allWays (now (constraints .entry)) (now (b .entry)) figures) ⌝ }
+pub fn best_way(constraints: &[u8], b: &[u8], t: [[bool; 8]; 8], figures: &[u32; 8]) -> Best
+    requires { ⌜ (Ready (now constraints) (now b) t (now figures)) ⌝ }
+    ensures { λ r. ⌜ wayIn r ≡ smallest (allWays (now (constraints .entry)) (now (b .entry)) (now (figures .entry))) ⌝ }
 {
     let p = pattern::size_of(b);
     let mut best = no_way();
@@ -278,13 +292,13 @@ pub fn best_way(constraints: &[u8], b: &[u8], t: [[bool; 8]; 8], figures: [u32; 
 fn least_with(
     b: &[u8],
     t: [[bool; 8]; 8],
-    figures: [u32; 8],
+    figures: &[u32; 8],
     u: usize,
     label: u16,
     o: usize,
 ) -> Best
     requires { ⌜ (Known (now b) t) × ((u < sizeOf (now b)) × (o < sizeOf (now b))) ⌝ }
-    ensures { λ r. ⌜ wayIn r ≡ least (figureOf figures) (narrow o (coveredWith (now (b .entry)) figures u label)) ⌝ }
+    ensures { λ r. ⌜ wayIn r ≡ least (figureOf (now (figures .entry))) (narrow o (coveredWith (now (b .entry)) (now (figures .entry)) u label)) ⌝ }
 {
     if suits(b, t, figures, u, label, o) {
         return node_only(b, t, figures, u, label, o);
@@ -296,13 +310,13 @@ fn least_with(
 fn suits_one(
     b: &[u8],
     t: [[bool; 8]; 8],
-    figures: [u32; 8],
+    figures: &[u32; 8],
     u: usize,
     k: Constraint,
     o: usize,
 ) -> bool
     requires { ⌜ (Known (now b) t) × ((u < sizeOf (now b)) × (o < sizeOf (now b))) ⌝ }
-    ensures { λ r. ⌜ r ≡ (suited (now (b .entry)) figures u (k .first) o || suited (now (b .entry)) figures u (k .second) o || suited (now (b .entry)) figures u (k .third) o) ⌝ }
+    ensures { λ r. ⌜ r ≡ (suited (now (b .entry)) (now (figures .entry)) u (k .first) o || suited (now (b .entry)) (now (figures .entry)) u (k .second) o || suited (now (b .entry)) (now (figures .entry)) u (k .third) o) ⌝ }
 {
     suits(b, t, figures, u, k.first, o)
         | suits(b, t, figures, u, k.second, o)
@@ -310,9 +324,16 @@ fn suits_one(
 }
 
 // The slot of a label for fetching u, where node o must be chosen if it suits.
-fn slot_with(b: &[u8], t: [[bool; 8]; 8], figures: [u32; 8], u: usize, label: u16, o: usize) -> Slot
-    requires { ⌜ (Known (now b) t) × ((Small figures) × ((u < sizeOf (now b)) × (o < sizeOf (now b)))) ⌝ }
-    ensures { λ r. ⌜ (r ≡ slotOf label (least (figureOf figures) (narrow o (coveredWith (now (b .entry)) figures u label)))) × (r .figure ≤ 65536) ⌝ }
+fn slot_with(
+    b: &[u8],
+    t: [[bool; 8]; 8],
+    figures: &[u32; 8],
+    u: usize,
+    label: u16,
+    o: usize,
+) -> Slot
+    requires { ⌜ (Known (now b) t) × ((Small (now figures)) × ((u < sizeOf (now b)) × (o < sizeOf (now b)))) ⌝ }
+    ensures { λ r. ⌜ (r ≡ slotOf label (least (figureOf (now (figures .entry))) (narrow o (coveredWith (now (b .entry)) (now (figures .entry)) u label)))) × (r .figure ≤ 65536) ⌝ }
 {
     if label == 0 {
         return slot_of(label, no_way());
@@ -324,14 +345,14 @@ fn slot_with(b: &[u8], t: [[bool; 8]; 8], figures: [u32; 8], u: usize, label: u1
 fn end_slots(
     b: &[u8],
     t: [[bool; 8]; 8],
-    figures: [u32; 8],
+    figures: &[u32; 8],
     u: usize,
     k: Constraint,
     own: Row,
     o: usize,
 ) -> Best
-    requires { ⌜ (Known (now b) t) × ((Small figures) × ((u < sizeOf (now b)) × ((o < sizeOf (now b)) × (k .most ≤ 65535)))) ⌝ }
-    ensures { λ r. ⌜ wayIn r ≡ endSlots (now (b .entry)) figures u k own o ⌝ }
+    requires { ⌜ (Known (now b) t) × ((Small (now figures)) × ((u < sizeOf (now b)) × ((o < sizeOf (now b)) × (k .most ≤ 65535)))) ⌝ }
+    ensures { λ r. ⌜ wayIn r ≡ endSlots (now (b .entry)) (now (figures .entry)) u k own o ⌝ }
 {
     let first = slot_with(b, t, figures, u, k.first, o);
     let second = slot_with(b, t, figures, u, k.second, o);
@@ -344,14 +365,14 @@ fn end_way(
     constraints: &[u8],
     b: &[u8],
     t: [[bool; 8]; 8],
-    figures: [u32; 8],
+    figures: &[u32; 8],
     j: usize,
     c: usize,
     f: usize,
     o: usize,
 ) -> Best
-    requires { ⌜ (Ready (now constraints) (now b) t figures) × ((f < sizeOf (now b)) × ((o < sizeOf (now b)) × ((c < constraintsIn (now constraints)) × (j < edgesOf (now b))))) ⌝ }
-    ensures { λ r. ⌜ wayIn r ≡ smallest (endBy (now (constraints .entry)) (now (b .entry)) figures j c f o) ⌝ }
+    requires { ⌜ (Ready (now constraints) (now b) t (now figures)) × ((f < sizeOf (now b)) × ((o < sizeOf (now b)) × ((c < constraintsIn (now constraints)) × (j < edgesOf (now b))))) ⌝ }
+    ensures { λ r. ⌜ wayIn r ≡ smallest (endBy (now (constraints .entry)) (now (b .entry)) (now (figures .entry)) j c f o) ⌝ }
 {
     let k = store::constraint_at(constraints, c);
     if pattern::label(b, f) != k.label {
@@ -378,12 +399,12 @@ fn best_by(
     constraints: &[u8],
     b: &[u8],
     t: [[bool; 8]; 8],
-    figures: [u32; 8],
+    figures: &[u32; 8],
     j: usize,
     c: usize,
 ) -> Best
-    requires { ⌜ (Ready (now constraints) (now b) t figures) × ((j < edgesOf (now b)) × (c < constraintsIn (now constraints))) ⌝ }
-    ensures { λ r. ⌜ wayIn r ≡ smallest (flatMap (endWays (now (constraints .entry)) (now (b .entry)) figures j c) (endsOf (now (b .entry)) j)) ⌝ }
+    requires { ⌜ (Ready (now constraints) (now b) t (now figures)) × ((j < edgesOf (now b)) × (c < constraintsIn (now constraints))) ⌝ }
+    ensures { λ r. ⌜ wayIn r ≡ smallest (flatMap (endWays (now (constraints .entry)) (now (b .entry)) (now (figures .entry)) j c) (endsOf (now (b .entry)) j)) ⌝ }
 {
     let from = pattern::from(b, j);
     let to = pattern::to(b, j);
@@ -404,11 +425,11 @@ pub fn best_for_edge(
     constraints: &[u8],
     b: &[u8],
     t: [[bool; 8]; 8],
-    figures: [u32; 8],
+    figures: &[u32; 8],
     j: usize,
 ) -> Best
-    requires { ⌜ (Ready (now constraints) (now b) t figures) × (j < edgesOf (now b)) ⌝ }
-    ensures { λ r. ⌜ wayIn r ≡ smallest (edgeWays (now (constraints .entry)) (now (b .entry)) figures j) ⌝ }
+    requires { ⌜ (Ready (now constraints) (now b) t (now figures)) × (j < edgesOf (now b)) ⌝ }
+    ensures { λ r. ⌜ wayIn r ≡ smallest (edgeWays (now (constraints .entry)) (now (b .entry)) (now (figures .entry)) j) ⌝ }
 {
     let n = constraints.len() / 12;
     let mut best = no_way();

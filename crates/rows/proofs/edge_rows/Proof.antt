@@ -19,32 +19,32 @@ loop-holds c = edges-start _ _ _ _ _ _ (c .before .before .before .before .befor
 -- a figure is above 65,536
 returns : tie.Need-returns Inv-loop μ-loop
 returns c =
-    edges-above (c .before .before .before .before .before .before .before .loop .inv) _ (omega arith)
+    edges-above (c .before .before .before .before .before .before .before .before .loop .inv) _ (omega arith)
     (way-found _ _ (c .before .before .before .before .before .best-for-edge .ensures) (c .before .before .before .if1 .taken)) (c .before .if2 .taken) (c .stand-of .ensures)
 
 add-sum : tie.Need-add-sum Inv-loop μ-loop
 add-sum c =
-    let inv = c .before .before .before .before .before .before .before .before .before .before .before .loop .inv in
-    let pre = c .before .before .before .before .before .before .before .before .before .before .before .before .before .before .before .before .before .pre in
+    let inv = c .before .before .before .before .before .before .before .before .before .before .before .before .loop .inv in
+    let pre = c .before .before .before .before .before .before .before .before .before .before .before .before .before .before .before .before .before .before .pre in
     search needs
 
 add-count : tie.Need-add-count Inv-loop μ-loop
 add-count c =
-    let inv = c .before .before .before .before .before .before .before .before .before .before .before .loop .inv in
-    let pre = c .before .before .before .before .before .before .before .before .before .before .before .before .before .before .before .before .before .pre in
+    let inv = c .before .before .before .before .before .before .before .before .before .before .before .before .loop .inv in
+    let pre = c .before .before .before .before .before .before .before .before .before .before .before .before .before .before .before .before .before .before .pre in
     search needs
 
 loop-again : tie.Need-loop-again Inv-loop μ-loop
 loop-again c =
-    let pre = c .before .before .before .before .before .before .before .before .before .before .before .before .before .before .before .before .before .pre in
-    let inv = c .before .before .before .before .before .before .before .before .before .before .before .loop .inv in
+    let pre = c .before .before .before .before .before .before .before .before .before .before .before .before .before .before .before .before .before .before .pre in
+    let inv = c .before .before .before .before .before .before .before .before .before .before .before .before .loop .inv in
     edges-next inv _ _ (omega arith)
     (way-found _ _ (c .before .before .before .before .before .before .before .before .before .best-for-edge .ensures) (c .before .before .before .before .before .before .before .if1 .taken))
     (omega arith) (omega arith) (c .before .before .before .put-row .ensures)
 
 -- edge j has no way
 loop-again-2 : tie.Need-loop-again-2 Inv-loop μ-loop
-loop-again-2 c = edges-skip (c .before .before .before .before .loop .inv) (omega arith) (way-missing _ _ (c .before .before .best-for-edge .ensures) (c .if1 .left))
+loop-again-2 c = edges-skip (c .before .before .before .before .before .loop .inv) (omega arith) (way-missing _ _ (c .before .before .best-for-edge .ensures) (c .if1 .left))
 
 -- each edge has had its turn
 returns-2 : tie.Need-returns-2 Inv-loop μ-loop

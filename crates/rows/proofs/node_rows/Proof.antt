@@ -21,32 +21,32 @@ loop-holds c = nodes-start _ _ _
 -- no way is found
 returns : tie.Need-returns Inv-loop μ-loop
 returns c =
-    nodes-stop (c .before .before .before .before .before .before .loop .inv) (c .before .before .before .before .before .before .before .before .before .before .before .pre .0 .known .few) (omega arith)
+    nodes-stop (c .before .before .before .before .before .before .before .loop .inv) (c .before .before .before .before .before .before .before .before .before .before .before .before .pre .0 .known .few) (omega arith)
     (way-missing (c .before .before .before .before .best-way .result) _ (c .before .before .before .before .best-way .ensures) (not-true _ (c .before .if1 .taken))) (c .stand-of .ensures)
 
 -- a figure is above 65,536
 returns-2 : tie.Need-returns-2 Inv-loop μ-loop
 returns-2 c =
-    nodes-above (c .before .before .before .before .before .before .before .before .loop .inv) _ (omega arith)
+    nodes-above (c .before .before .before .before .before .before .before .before .before .loop .inv) _ (omega arith)
     (way-found (c .before .before .before .before .before .before .best-way .result) _ (c .before .before .before .before .before .before .best-way .ensures) (not-false _ (c .before .before .before .if1 .left))) (c .before .if2 .taken) (c .stand-of2 .ensures)
 
 array-write-figures : tie.Need-array-write-figures Inv-loop μ-loop
 array-write-figures c =
     let h = next-says _ _ _ _ (way-found (c .before .before .before .before .before .before .before .before .before .before .before .best-way .result) _ (c .before .before .before .before .before .before .before .before .before .before .before .best-way .ensures) (not-false _ (c .before .before .before .before .before .before .before .before .if1 .left))) .node in
-    let few = c .before .before .before .before .before .before .before .before .before .before .before .before .before .before .before .before .before .before .pre .0 .known .few in
+    let few = c .before .before .before .before .before .before .before .before .before .before .before .before .before .before .before .before .before .before .before .pre .0 .known .few in
     search needs
 
 add-sum : tie.Need-add-sum Inv-loop μ-loop
 add-sum c =
-    let most = c .before .before .before .before .before .before .before .before .before .before .before .before .before .before .loop .inv .going .most in
-    let few = c .before .before .before .before .before .before .before .before .before .before .before .before .before .before .before .before .before .before .before .pre .0 .known .few in
+    let most = c .before .before .before .before .before .before .before .before .before .before .before .before .before .before .before .loop .inv .going .most in
+    let few = c .before .before .before .before .before .before .before .before .before .before .before .before .before .before .before .before .before .before .before .before .pre .0 .known .few in
     search needs
 
 loop-again : tie.Need-loop-again Inv-loop μ-loop
 loop-again c =
-    nodes-next (c .before .before .before .before .before .before .before .before .before .before .before .before .before .before .loop .inv) _ _ (omega arith)
+    nodes-next (c .before .before .before .before .before .before .before .before .before .before .before .before .before .before .before .loop .inv) _ _ (omega arith)
     (way-found (c .before .before .before .before .before .before .before .before .before .before .before .before .best-way .result) _ (c .before .before .before .before .before .before .before .before .before .before .before .before .best-way .ensures) (not-false _ (c .before .before .before .before .before .before .before .before .before .if1 .left)))
-    (omega arith) (omega (arith, c .before .before .before .before .before .before .before .before .before .before .before .before .before .before .before .before .before .before .before .pre, c .before .before .before .before .before .before .before .before .before .before .before .before .before .before .loop .inv .going .kept)) (c .before .before .before .before .before .put-row .ensures)
+    (omega arith) (omega (arith, c .before .before .before .before .before .before .before .before .before .before .before .before .before .before .before .before .before .before .before .before .pre, c .before .before .before .before .before .before .before .before .before .before .before .before .before .before .before .loop .inv .going .kept)) (c .before .before .before .before .before .put-row .ensures)
 
 -- each node has its row
 returns-3 : tie.Need-returns-3 Inv-loop μ-loop
