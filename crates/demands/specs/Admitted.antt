@@ -169,7 +169,7 @@ padded-length : (x : ℕ) (l : List ℕ) → length (padded x l) ≡ 3
 unfolding padded
 padded-length x l = simp (length-take, length-append) (omega arith)
 
-group-length : (start : ℕ) (groups : List Group) → length (groupBytes start groups) ≡ length groups * 24
+pub group-length : (start : ℕ) (groups : List Group) → length (groupBytes start groups) ≡ length groups * 24
 unfolding groupBytes
 group-length start [] = refl
 group-length start (x ∷ xs) =
@@ -178,19 +178,19 @@ group-length start (x ∷ xs) =
     let six : length words ≡ 6 = simp length-append (omega (arith, padded-length noId (x .key))) in
     length-append (encoded words) (groupBytes (start + n) xs) ∙ omega (arith, length-encoded words, group-length (start + n) xs)
 
-list-length : (l : List Entry) → length (listBytes l) ≡ length l * 8
+pub list-length : (l : List Entry) → length (listBytes l) ≡ length l * 8
 unfolding listBytes flatMap
 list-length [] = refl
 list-length (x ∷ xs) = omega (arith, list-length xs)
 
-entry-length : (groups : List Group) → length (entryBytes groups) ≡ entryTotal groups * 8
+pub entry-length : (groups : List Group) → length (entryBytes groups) ≡ entryTotal groups * 8
 unfolding entryBytes entryTotal flatMap sum
 entry-length [] = refl
 entry-length (x ∷ xs) =
     length-append (listBytes (x .entries)) (entryBytes xs) ∙ omega (arith, list-length (x .entries), entry-length xs)
 
 -- the store as a header and what stands under it
-store-split : (d : List ℕ)
+pub store-split : (d : List ℕ)
     → storeOf d
     ≡ header (nodeCount d) (edgeCount d) (constraintCount d) (length (storeIndex d)) (entryTotal (storeIndex d))
     ++ (part d 48 (groupsAt d) ++ (groupBytes 0 (storeIndex d) ++ entryBytes (storeIndex d)))

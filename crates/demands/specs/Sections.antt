@@ -80,7 +80,7 @@ module _ (n m k g e : ℕ) (hn : n ≤ 65535) (hm : m ≤ 262144) (hk : k ≤ 32
   unfolding header
   total-read = words-read _ rest 11 words-small (omega arith)
 
-  header-length : length (header n m k g e) ≡ 48
+  pub header-length : length (header n m k g e) ≡ 48
   unfolding header
   header-length = length-encoded _
 
@@ -203,6 +203,17 @@ few-groups s q = ltb-false _ _ (or-first _ (ltb 1048576 (entryTotal (storeIndex 
 pub few-entries : (s : List ℕ) → graphNumber s ≡ 0 → entryTotal (storeIndex s) ≤ 1048576
 unfolding tooMany
 few-entries s q = ltb-false _ _ (or-second (ltb 262144 (length (storeIndex s))) _ (few-by _ _ _ _ (sym (numbered s) ∙ q)))
+
+within-by : (records constraints exceed many : Bool) → byTests records constraints exceed many ≡ 0 → exceed ≡ false
+unfolding byTests
+within-by true true false t q = refl
+within-by true true true t q = absurd (omega arith)
+within-by true false x t q = absurd (omega arith)
+within-by false c x t q = absurd (omega arith)
+
+-- and no list exceeds its N
+pub none-exceeds : (s : List ℕ) → graphNumber s ≡ 0 → exceeds s ≡ false
+none-exceeds s q = within-by _ _ _ _ (sym (numbered s) ∙ q)
 
 module _ (a b : List ℕ) (x : Alike a b) where
   pub nodes-alike : nodePart a ≡ nodePart b

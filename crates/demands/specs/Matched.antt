@@ -1,0 +1,110 @@
+-- What the match rule says of a row, part by part. Assumes nothing.
+use native.Mathlib.Omega.{arith}
+use mathlib.Core.Path.{_≡_, refl}
+use mathlib.Core.Bool.{Bool, true, false, _&&_, _||_}
+use mathlib.Core.List.{List}
+use Prim.Native.Nat.{ℕ, zero, suc, _+_, _≤_, _<_}
+use lib.Dec.{ltb, eqb}
+use lib.ListN.{length}
+use borrow.Author.Tests.{eqb-true, eq-eqb, ltb-true, lt-ltb}
+use Rattle.rules.specs.Lists.{allFrom}
+use Rattle.rules.specs.Graph.{Graph, neighbours}
+use Rattle.rules.specs.Pattern.{sizeOf, edgesOf, patternLabel, meetsBoth, patternFrom, patternTo, patternEdge, joined}
+use Rattle.rules.specs.Match.{image, suits, alone, isMatch}
+use Rattle.laws.specs.Cases.{first-holds, second-holds, and-yes, or-left}
+use Rattle.laws.specs.Each.{all-each, any-some}
+
+-- each: so all
+pub each-all : (p : ℕ → Bool) (k n : ℕ) → ((i : ℕ) → k ≤ i → i < k + n → p i ≡ true) → allFrom p k n ≡ true
+unfolding allFrom
+each-all p k zero h = refl
+each-all p k (suc n) h = and-yes (p k) (allFrom p (k + 1) n) (h k (omega arith) (omega arith)) (each-all p (k + 1) n (λ i a c. h i (omega arith) (omega arith)))
+
+-- ---- a node that suits
+pub record Suited (g : Graph) (b : List ℕ) (u v : ℕ) : Type 0 where
+  pub node : v < g .size
+  pub label : g .label v ≡ patternLabel b u
+  pub meet : meetsBoth b u (g .value v) ≡ true
+
+module _ (g : Graph) (b : List ℕ) (u v : ℕ) where
+  pub suits-says : suits g b u v ≡ true → Suited g b u v
+  unfolding suits
+  suits-says h =
+      let inside = ltb v (g .size) in
+      let named = eqb (g .label v) (patternLabel b u) in
+      let front = first-holds (inside && named) (meetsBoth b u (g .value v)) h in
+      record {
+        node = ltb-true v (g .size) (first-holds inside named front);
+        label = eqb-true (g .label v) (patternLabel b u) (second-holds inside named front);
+        meet = second-holds (inside && named) (meetsBoth b u (g .value v)) h;
+      }
+
+  pub says-suits : Suited g b u v → suits g b u v ≡ true
+  unfolding suits
+  says-suits s = rw (lt-ltb v (g .size) (s .node), eq-eqb (g .label v) (patternLabel b u) (s .label)) (s .meet)
+
+-- ---- a match
+pub record Matched (g : Graph) (b row : List ℕ) : Type 0 where
+  pub size : length row ≡ sizeOf b
+  pub node : (u : ℕ) → u < sizeOf b → suits g b u (image row u) ≡ true
+  pub own : (u : ℕ) → u < sizeOf b → alone row u ≡ true
+  pub edge : (j : ℕ) → j < edgesOf b → g .edge (image row (patternFrom b j)) (image row (patternTo b j)) ≡ true
+
+module _ (g : Graph) (b row : List ℕ) where
+  abbrev long : Bool
+  long = eqb (length row) (sizeOf b)
+
+  abbrev suited : Bool
+  suited = allFrom (λ u. suits g b u (image row u)) 0 (sizeOf b)
+
+  abbrev owned : Bool
+  owned = allFrom (alone row) 0 (sizeOf b)
+
+  abbrev edged : Bool
+  edged = allFrom (λ j. g .edge (image row (patternFrom b j)) (image row (patternTo b j))) 0 (edgesOf b)
+
+  pub match-says : isMatch g b row ≡ true → Matched g b row
+  unfolding isMatch
+  match-says h =
+      let three : (long && suited && owned) ≡ true = first-holds (long && suited && owned) edged h in
+      let two : (long && suited) ≡ true = first-holds (long && suited) owned three in
+      record {
+        size = eqb-true (length row) (sizeOf b) (first-holds long suited two);
+        node = λ u l. all-each (λ u. suits g b u (image row u)) 0 (sizeOf b) (second-holds long suited two) u (omega arith) (omega arith);
+        own = λ u l. all-each (alone row) 0 (sizeOf b) (second-holds (long && suited) owned three) u (omega arith) (omega arith);
+        edge = λ j l. all-each (λ j. g .edge (image row (patternFrom b j)) (image row (patternTo b j))) 0 (edgesOf b)
+            (second-holds (long && suited && owned) edged h) j (omega arith) (omega arith);
+      }
+
+  pub says-match : Matched g b row → isMatch g b row ≡ true
+  unfolding isMatch
+  says-match m =
+      let a : long ≡ true = eq-eqb (length row) (sizeOf b) (m .size) in
+      let c : suited ≡ true = each-all (λ u. suits g b u (image row u)) 0 (sizeOf b) (λ u k l. m .node u (omega arith)) in
+      let d : owned ≡ true = each-all (alone row) 0 (sizeOf b) (λ u k l. m .own u (omega arith)) in
+      let e : edged ≡ true =
+      each-all (λ j. g .edge (image row (patternFrom b j)) (image row (patternTo b j))) 0 (edgesOf b) (λ j k l. m .edge j (omega arith)) in
+      rw (a, c, d, e)
+
+  -- a pattern edge is an edge between the images
+  edge-image : Matched g b row → (x y : ℕ) → patternEdge b x y ≡ true → g .edge (image row x) (image row y) ≡ true
+  unfolding patternEdge
+  edge-image m x y h =
+      let s = any-some (λ j. eqb (patternFrom b j) x && eqb (patternTo b j) y) 0 (edgesOf b) h in
+      let j = s .at in
+      let e = eqb-true (patternFrom b j) x (first-holds (eqb (patternFrom b j) x) (eqb (patternTo b j) y) (s .holds)) in
+      let f = eqb-true (patternTo b j) y (second-holds (eqb (patternFrom b j) x) (eqb (patternTo b j) y) (s .holds)) in
+      rw (e, f) at (m .edge j (omega arith))
+
+  -- so the images of joined nodes are neighbours
+  pub joined-image : Matched g b row → (x y : ℕ) → joined b x y ≡ true → neighbours g (image row x) (image row y) ≡ true
+  unfolding joined neighbours
+  joined-image m x y h = go (patternEdge b x y) refl
+    where
+      either : (s t : Bool) → t ≡ true → (s || t) ≡ true
+      either true t e = refl
+      either false t e = e
+
+      go : (t : Bool) → patternEdge b x y ≡ t → (g .edge (image row x) (image row y) || g .edge (image row y) (image row x)) ≡ true
+      go true e = or-left (g .edge (image row x) (image row y)) (g .edge (image row y) (image row x)) (edge-image m x y e)
+      go false e = either (g .edge (image row x) (image row y)) (g .edge (image row y) (image row x)) (edge-image m y x (rw e at h))
