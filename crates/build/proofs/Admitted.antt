@@ -17,8 +17,9 @@ use Rattle.rules.specs.Index.{groupBytes, entryBytes, storeIndex, entryTotal, s
 use Rattle.rules.specs.Answers.{same, graphNumber, admitNumber}
 use Rattle.laws.specs.Cases.{first-holds, second-holds}
 use Rattle.laws.specs.Header.{header-ends, header-long}
+use Rattle.build.specs.Packed.{forwardWords}
 use Rattle.build.specs.Emit.{sinkOf, Placed}
-use Rattle.build.specs.Pass.{Right, forwardSet, joinedSet, indexSame, passed}
+use Rattle.build.specs.Pass.{Right, joinedSet, indexSame, passed}
 use Rattle.build.specs.declared.Task.{Task}
 use Rattle.build.specs.declared.Tally.{Tally}
 use Rattle.build.proofs.Records.{over-all}
@@ -27,7 +28,7 @@ use Rattle.build.proofs.Items.{short, total, groupFor}
 use Rattle.build.proofs.Whole.{compare-all, part-add, length-part}
 use Rattle.build.proofs.Index.{itemsOf, passed-items, index-items, index-length, index-total}
 use Rattle.build.proofs.Written.{all-short, told, index-lengths}
-use Rattle.build.proofs.Numbers.{none-right, none-few}
+use Rattle.build.proofs.Numbers.{none-few}
 
 -- ---- same bytes
 pub same-true : (a b : List ℕ) → same a b ≡ true → a ≡ b
@@ -75,7 +76,7 @@ index-compared {s} right at g e r room room′ ea eg ee fits q =
     let n : length (storeIndex s) ≡ length xs = index-length right task s refl in
     let m : entryTotal (storeIndex s) ≡ total xs = index-total right task s refl in
     let i : map (groupFor (storeGraph s)) xs ≡ storeIndex s = index-items right task s refl in
-    let sh : all short xs ≡ true = all-short task (forwardSet (edgePart s)) s (nodePart s) (joinedSet (edgePart s)) (constraintPart s) 0 (constraintsIn (constraintPart s)) in
+    let sh : all short xs ≡ true = all-short task (forwardWords (edgePart s)) s (nodePart s) (joinedSet (edgePart s)) (constraintPart s) 0 (constraintsIn (constraintPart s)) in
     let w = compare-all task (told right) s (λ z. omega arith) (λ z. omega arith) 0 0 room xs sh (omega arith) (omega arith) (omega arith) (omega arith) in
     let a : at + 0 * 24 ≡ groupsAt s = omega arith in
     let b : at + g * 24 + 0 * 8 ≡ groupsAt s + g * 24 = omega arith in
@@ -211,60 +212,53 @@ module _ (s : List ℕ) where
   when : (a b c d : Bool) (n : ℕ) → headerRight s ≡ a → eqb (graphNumber s) 0 ≡ b → same (storeOf s) s ≡ c → eqb (graphNumber s) 11 ≡ d → graphNumber s ≡ n → admitNumber s ≡ admitBy a b c d n
   when a b c d n p q r t u = shape ∙ cc
 
-  module _ (h : Bool) (eh : h ≡ headerRight s) where
-    pub admits-not : not h ≡ true → 1 ≡ admitNumber s
+  pub admits-not : (h : Bool) → h ≡ headerRight s → not h ≡ true → 1 ≡ admitNumber s
+  unfolding admitBy
+  admits-not h eh x = sym (when false _ _ _ _ (sym eh ∙ not-true h x) refl refl refl refl)
+
+  module _ (head : headerRight s ≡ true) (n : ℕ) (en : n ≡ graphNumber s) where
+    pub admits-many : n ≡ 11 → 5 ≡ admitNumber s
     unfolding admitBy
-    admits-not x = sym (when false _ _ _ _ (sym eh ∙ not-true h x) refl refl refl refl)
+    admits-many z = sym (when true false _ true _ head (ne-eqb (graphNumber s) 0 (λ q. omega arith)) refl (eq-eqb (graphNumber s) 11 (sym en ∙ z)) refl)
 
-    module _ (hh : not h ≡ false) (n : ℕ) (en : n ≡ graphNumber s) where
-      pub is-header : headerRight s ≡ true
-      is-header = sym eh ∙ not-false h hh
+    pub admits-graph : (n ≡ 11 → ⊥) → (n ≡ 0 → ⊥) → n ≡ admitNumber s
+    unfolding admitBy
+    admits-graph f z = sym (when true false _ false n head (ne-eqb (graphNumber s) 0 (λ q. z (en ∙ q))) refl (ne-eqb (graphNumber s) 11 (λ q. f (en ∙ q))) (sym en))
 
-      pub admits-many : n ≡ 11 → 5 ≡ admitNumber s
+  module _ (right : Right s) (n : ℕ) (en : n ≡ graphNumber s) (z : n ≡ 0) (g e : ℕ) (counts : n ≡ 0 → (g ≡ length (storeIndex s)) × (e ≡ entryTotal (storeIndex s))) where
+    pub few-groups : g ≤ 262144
+    few-groups = let f = none-few s right (sym en ∙ z) in let c = counts z in omega (arith, f .0, c .0)
+
+    pub few-entries : e ≤ 1048576
+    few-entries = let f = none-few s right (sym en ∙ z) in let c = counts z in omega (arith, f .1, c .1)
+
+    settled : (b : Bool) → same (storeOf s) s ≡ b → admitNumber s ≡ admitBy true true b false 0
+    settled b q = when true true b false 0 (right .header) (eq-eqb (graphNumber s) 0 (sym en ∙ z)) q (ne-eqb (graphNumber s) 11 (λ r. omega arith)) (sym en ∙ z)
+
+    module _ (r : Bool) (er : r ≡ same (header (nodeCount s) (edgeCount s) (constraintCount s) g e) (take 48 s)) where
+      pub admits-header : not r ≡ true → 5 ≡ admitNumber s
       unfolding admitBy
-      admits-many z = sym (when true false _ true _ is-header (ne-eqb (graphNumber s) 0 (λ q. omega arith)) refl (eq-eqb (graphNumber s) 11 (sym en ∙ z)) refl)
+      admits-header x = sym (settled false (header-differs right g e (counts z .0) (counts z .1) (sym er ∙ not-true r x)))
 
-      pub admits-graph : (n ≡ 11 → ⊥) → (n ≡ 0 → ⊥) → n ≡ admitNumber s
-      unfolding admitBy
-      admits-graph f z = sym (when true false _ false n is-header (ne-eqb (graphNumber s) 0 (λ q. z (en ∙ q))) refl (ne-eqb (graphNumber s) 11 (λ q. f (en ∙ q))) (sym en))
+      module _ (hr : not r ≡ false) where
+        alike : same (header (nodeCount s) (edgeCount s) (constraintCount s) g e) (take 48 s) ≡ true
+        alike = sym er ∙ not-false r hr
 
-      module _ (z : n ≡ 0) (g e : ℕ) (counts : n ≡ 0 → (g ≡ length (storeIndex s)) × (e ≡ entryTotal (storeIndex s))) where
-        pub is-right : Right s
-        is-right = none-right s is-header (sym en ∙ z)
+        pub ends : groupsAt s + g * 24 + e * 8 ≡ length s
+        ends =
+            let a : g ≡ groupCount s = header-groups s (nodeCount s) (edgeCount s) (constraintCount s) g e alike few-groups in
+            let b : e ≡ entryCount s = header-entries s (nodeCount s) (edgeCount s) (constraintCount s) g e alike few-entries in
+            let l = header-ends s (right .header) in
+            omega arith
 
-        pub few-groups : g ≤ 262144
-        few-groups = let f = none-few s (sym en ∙ z) in let c = counts z in omega (arith, f .0, c .0)
-
-        pub few-entries : e ≤ 1048576
-        few-entries = let f = none-few s (sym en ∙ z) in let c = counts z in omega (arith, f .1, c .1)
-
-        settled : (b : Bool) → same (storeOf s) s ≡ b → admitNumber s ≡ admitBy true true b false 0
-        settled b q = when true true b false 0 is-header (eq-eqb (graphNumber s) 0 (sym en ∙ z)) q (ne-eqb (graphNumber s) 11 (λ r. omega arith)) (sym en ∙ z)
-
-        module _ (r : Bool) (er : r ≡ same (header (nodeCount s) (edgeCount s) (constraintCount s) g e) (take 48 s)) where
-          pub admits-header : not r ≡ true → 5 ≡ admitNumber s
+        module _ (i : Bool) (ei : i ≡ indexSame s g e) where
+          pub admits-index : not i ≡ true → 5 ≡ admitNumber s
           unfolding admitBy
-          admits-header x = sym (settled false (header-differs is-right g e (counts z .0) (counts z .1) (sym er ∙ not-true r x)))
+          admits-index x = sym (settled false (header-agrees right g e (counts z .0) (counts z .1) alike ends ∙ sym ei ∙ not-true i x))
 
-          module _ (hr : not r ≡ false) where
-            alike : same (header (nodeCount s) (edgeCount s) (constraintCount s) g e) (take 48 s) ≡ true
-            alike = sym er ∙ not-false r hr
-
-            pub ends : groupsAt s + g * 24 + e * 8 ≡ length s
-            ends =
-                let a : g ≡ groupCount s = header-groups s (nodeCount s) (edgeCount s) (constraintCount s) g e alike few-groups in
-                let b : e ≡ entryCount s = header-entries s (nodeCount s) (edgeCount s) (constraintCount s) g e alike few-entries in
-                let l = header-ends s is-header in
-                omega arith
-
-            module _ (i : Bool) (ei : i ≡ indexSame s g e) where
-              pub admits-index : not i ≡ true → 5 ≡ admitNumber s
-              unfolding admitBy
-              admits-index x = sym (settled false (header-agrees is-right g e (counts z .0) (counts z .1) alike ends ∙ sym ei ∙ not-true i x))
-
-              pub admits : not i ≡ false → 0 ≡ admitNumber s
-              unfolding admitBy
-              admits x = sym (settled true (header-agrees is-right g e (counts z .0) (counts z .1) alike ends ∙ sym ei ∙ not-false i x))
+          pub admits : not i ≡ false → 0 ≡ admitNumber s
+          unfolding admitBy
+          admits x = sym (settled true (header-agrees right g e (counts z .0) (counts z .1) alike ends ∙ sym ei ∙ not-false i x))
 
 pub compared-left : (own own₀ w b : List ℕ) (r : Bool) → r ≡ same own b → own ≡ over own₀ 0 w → length own₀ ≤ length w → r ≡ same w b
 compared-left own own₀ w b r q e h = q ∙ ap (λ l. same l b) (e ∙ over-all own₀ w h)

@@ -8,7 +8,7 @@ use Prim.Native.Nat.{ℕ, _+_, _-_, _*_, _≤_, _<_}
 use lib.Dec.{eqb, leb}
 use lib.ListN.{length, take, drop, set, getD, length-append, length-take, length-drop}
 use lib.Seq.{paste, paste-suc, take-all}
-use borrow.Author.Tests.{not-true, not-false, eq-eqb, ne-eqb, le-leb, lt-leb}
+use borrow.Author.Tests.{not-true, eq-eqb, ne-eqb, le-leb, lt-leb}
 use Rattle.rules.specs.Words.{encoded, over}
 use Rattle.rules.specs.Store.{nodeCount, edgeCount, constraintCount, groupsAt, header, draftRight}
 use Rattle.rules.specs.Index.{groupBytes, entryBytes, storeIndex, entryTotal, storeOf}
@@ -76,26 +76,25 @@ module _ (draft room : List ℕ) where
   when : (a b c : Bool) (n : ℕ) → draftRight draft ≡ a → eqb (graphNumber draft) 0 ≡ b → leb (length (storeOf draft)) (length room) ≡ c → graphNumber draft ≡ n → buildNumber draft room ≡ numberBy a b c n
   when a b c n p q r t = shape ∙ cc
 
-  module _ (d : Bool) (ed : d ≡ draftRight draft) where
-    pub gives-one : not d ≡ true → gave 1 0 room ≡ buildOutcome draft room
+  pub gives-one : (d : Bool) → d ≡ draftRight draft → not d ≡ true → gave 1 0 room ≡ buildOutcome draft room
+  unfolding numberBy
+  gives-one d ed h = refused-so 1 (when false _ _ _ (sym ed ∙ not-true d h) refl refl refl) (λ z. omega arith)
+
+  module _ (right : draftRight draft ≡ true) (n : ℕ) (en : n ≡ graphNumber draft) where
+    pub gives-graph : (n ≡ 0 → ⊥) → gave n 0 room ≡ buildOutcome draft room
     unfolding numberBy
-    gives-one h = refused-so 1 (when false _ _ _ (sym ed ∙ not-true d h) refl refl refl) (λ z. omega arith)
+    gives-graph z = refused-so n (when true false _ n right (ne-eqb (graphNumber draft) 0 (λ e. z (en ∙ e))) refl (sym en)) z
 
-    module _ (hd : not d ≡ false) (n : ℕ) (en : n ≡ graphNumber draft) where
-      pub gives-graph : (n ≡ 0 → ⊥) → gave n 0 room ≡ buildOutcome draft room
+    module _ (z : n ≡ 0) (total : ℕ) (et : length (storeOf draft) ≡ total) where
+      pub gives-ten : length room < total → gave 10 0 room ≡ buildOutcome draft room
       unfolding numberBy
-      gives-graph z = refused-so n (when true false _ n (sym ed ∙ not-false d hd) (ne-eqb (graphNumber draft) 0 (λ e. z (en ∙ e))) refl (sym en)) z
+      gives-ten h =
+          refused-so 10 (when true true false 0 right (eq-eqb (graphNumber draft) 0 (sym en ∙ z)) (lt-leb (length (storeOf draft)) (length room) (omega arith)) (sym en ∙ z)) (λ z. omega arith)
 
-      module _ (z : n ≡ 0) (total : ℕ) (et : length (storeOf draft) ≡ total) where
-        pub gives-ten : length room < total → gave 10 0 room ≡ buildOutcome draft room
-        unfolding numberBy
-        gives-ten h =
-            refused-so 10 (when true true false 0 (sym ed ∙ not-false d hd) (eq-eqb (graphNumber draft) 0 (sym en ∙ z)) (lt-leb (length (storeOf draft)) (length room) (omega arith)) (sym en ∙ z)) (λ z. omega arith)
-
-        pub gives-store : {room′ : List ℕ} → total ≤ length room → room′ ≡ over room 0 (storeOf draft) → gave 0 total room′ ≡ buildOutcome draft room
-        unfolding numberBy
-        gives-store {room′} h e =
-            answered-so total room′ (when true true true 0 (sym ed ∙ not-false d hd) (eq-eqb (graphNumber draft) 0 (sym en ∙ z)) (le-leb (length (storeOf draft)) (length room) (omega arith)) (sym en ∙ z)) e et
+      pub gives-store : {room′ : List ℕ} → total ≤ length room → room′ ≡ over room 0 (storeOf draft) → gave 0 total room′ ≡ buildOutcome draft room
+      unfolding numberBy
+      gives-store {room′} h e =
+          answered-so total room′ (when true true true 0 right (eq-eqb (graphNumber draft) 0 (sym en ∙ z)) (le-leb (length (storeOf draft)) (length room) (omega arith)) (sym en ∙ z)) e et
 
 -- ---- the bytes of the store
 module _ (draft : List ℕ) (g e : ℕ) (right : draftRight draft ≡ true) (eg : g ≡ length (storeIndex draft)) (ee : e ≡ entryTotal (storeIndex draft))

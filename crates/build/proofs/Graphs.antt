@@ -7,16 +7,17 @@ use mathlib.Core.List.{List, [], _∷_, _++_, map}
 use Prim.Native.Nat.{ℕ, zero, suc, _+_, _*_, _≤_, _<_}
 use lib.Dec.{eqb, ltb, leb}
 use borrow.Author.Tests.{le-ltb, lt-ltb, eq-eqb, ne-eqb}
-use Rattle.rules.specs.Lists.{range, anyFrom, has, setOf, keep}
-use Rattle.rules.specs.Store.{edgesIn, fromAt, toAt, labelsOf, labelAfter, constraintAlone}
+use Rattle.rules.specs.Lists.{range, anyFrom, has, setOf, keep, Strict}
+use Rattle.rules.specs.Store.{edgesIn, fromAt, toAt, edgePart, labelsOf, labelAfter, constraintAlone}
 use Rattle.rules.specs.Graph.{graphOf, edgeIn, neighbours, labelled}
 use Rattle.rules.specs.declared.Constraint.{Constraint}
 use Rattle.laws.specs.Sets.{has-set, set-strict}
 use Rattle.laws.specs.Searching.{standsIn, stands-has}
 use Rattle.laws.specs.Cases.{first-holds, second-holds}
-use Rattle.build.specs.Packed.{forwardAt, backwardAt, EdgesBelow, wordIn, hasLabel, labelledIn}
+use Rattle.build.specs.Packed.{forwardAt, backwardAt, EdgesBelow, forwardWords, wordIn, hasLabel, labelledIn}
+use Rattle.build.specs.Near.{Joined}
 use Rattle.build.specs.Keyed.{labelsLeft}
-use Rattle.build.specs.Pass.{forwardSet, joinedSet}
+use Rattle.build.specs.Pass.{joinedSet, Sound}
 
 -- ---- members
 has-append : (x : ℕ) (a b : List ℕ) → has x (a ++ b) ≡ (has x a || has x b)
@@ -69,8 +70,8 @@ and-none true = refl
 and-none false = refl
 
 module _ (edges : List ℕ) (below : EdgesBelow edges) where
-  forward-has : (u v : ℕ) → v < 65536 → has (u * 65536 + v) (map (forwardAt edges) (range 0 (edgesIn edges))) ≡ edgeIn edges u v
-  unfolding forwardAt edgeIn
+  forward-has : (u v : ℕ) → v < 65536 → has (u * 65536 + v) (forwardWords edges) ≡ edgeIn edges u v
+  unfolding forwardAt forwardWords edgeIn
   forward-has u v h =
       has-words (forwardAt edges) (u * 65536 + v) 0 (edgesIn edges)
       ∙ any-alike (λ i. eqb (u * 65536 + v) (forwardAt edges i)) (λ i. eqb (fromAt edges i) u && eqb (toAt edges i) v) 0 (edgesIn edges)
@@ -95,26 +96,22 @@ module _ (edges : List ℕ) (below : EdgesBelow edges) where
       any-none (λ i. eqb (fromAt edges i) u && eqb (toAt edges i) v) 0 (edgesIn edges)
       (λ i j. let b = below .to i (omega arith) in rw (ne-eqb (toAt edges i) v (λ e. omega arith)) (and-none (eqb (fromAt edges i) u)))
 
-  pub forward-in : (u v : ℕ) → wordIn (forwardSet edges) u v ≡ edgeIn edges u v
-  unfolding wordIn forwardSet
-  forward-in u v = go (decLe 65536 u) (decLe 65536 v)
+  pub forward-in : Strict (forwardWords edges) → (u v : ℕ) → wordIn (forwardWords edges) u v ≡ edgeIn edges u v
+  unfolding wordIn
+  forward-in up u v = go (decLe 65536 u) (decLe 65536 v)
     where
-      ws : List ℕ
-      ws = map (forwardAt edges) (range 0 (edgesIn edges))
-
-      go : Dec (65536 ≤ u) → Dec (65536 ≤ v) → (ltb u 65536 && ltb v 65536 && standsIn (u * 65536 + v) (setOf ws)) ≡ edgeIn edges u v
+      go : Dec (65536 ≤ u) → Dec (65536 ≤ v) → (ltb u 65536 && ltb v 65536 && standsIn (u * 65536 + v) (forwardWords edges)) ≡ edgeIn edges u v
       go (yes h) k = rw (le-ltb u 65536 h) (sym (high-from u v h))
       go (no h) (yes k) = rw (lt-ltb u 65536 (omega arith), le-ltb v 65536 k) (sym (high-to u v k))
       go (no h) (no k) =
-          rw (lt-ltb u 65536 (omega arith), lt-ltb v 65536 (omega arith))
-          (stands-has (u * 65536 + v) (setOf ws) (set-strict ws) ∙ has-set (u * 65536 + v) ws ∙ forward-has u v (omega arith))
+          rw (lt-ltb u 65536 (omega arith), lt-ltb v 65536 (omega arith)) (stands-has (u * 65536 + v) (forwardWords edges) up ∙ forward-has u v (omega arith))
 
   pub joined-in : (u v : ℕ) → wordIn (joinedSet edges) u v ≡ (edgeIn edges v u || edgeIn edges u v)
   unfolding wordIn joinedSet
   joined-in u v = go (decLe 65536 u) (decLe 65536 v)
     where
       a : List ℕ
-      a = map (forwardAt edges) (range 0 (edgesIn edges))
+      a = forwardWords edges
 
       b : List ℕ
       b = map (backwardAt edges) (range 0 (edgesIn edges))
@@ -127,9 +124,16 @@ module _ (edges : List ℕ) (below : EdgesBelow edges) where
           (stands-has (u * 65536 + v) (setOf (a ++ b)) (set-strict (a ++ b)) ∙ has-set (u * 65536 + v) (a ++ b) ∙ has-append (u * 65536 + v) a b
           ∙ rw (forward-has u v (omega arith), backward-has u v (omega arith)) (or-swap (edgeIn edges u v) (edgeIn edges v u)))
 
+  pub joined-both : Joined (joinedSet edges)
+  unfolding joinedSet
+  joined-both = record {
+    strict = set-strict (forwardWords edges ++ map (backwardAt edges) (range 0 (edgesIn edges)));
+    both = λ u v. joined-in u v ∙ or-swap (edgeIn edges v u) (edgeIn edges u v) ∙ sym (joined-in v u);
+  }
+
   -- so the words tell the graph
-  pub graph-edges : wordIn (forwardSet edges) ≡ edgeIn edges
-  graph-edges = fun-ext (λ u. fun-ext (λ v. forward-in u v))
+  pub graph-edges : Strict (forwardWords edges) → wordIn (forwardWords edges) ≡ edgeIn edges
+  graph-edges up = fun-ext (λ u. fun-ext (λ v. forward-in up u v))
 
   pub graph-joined : (nodes : List ℕ) → wordIn (joinedSet edges) ≡ (λ u v. neighbours (graphOf nodes edges) v u)
   unfolding neighbours graphOf
@@ -162,3 +166,7 @@ labels-of d h =
     go false true false p q a b = absurd (false≢true b)
     go false false true p q a b = refl
     go false false false p q a b = refl
+
+-- the words of a sound store
+pub own-both : {joined : List ℕ} (s : List ℕ) → Sound s → joined ≡ joinedSet (edgePart s) → Joined joined
+own-both s h e = rw e (joined-both (edgePart s) (h .below))

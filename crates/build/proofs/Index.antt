@@ -8,7 +8,7 @@ use Prim.Native.Nat.{ℕ, zero, suc, _+_, _-_, _*_, _≤_, _<_}
 use lib.Dec.{eqb, ltb}
 use lib.ListN.{length, length-map, length-append}
 use borrow.Author.Tests.{le-ltb, lt-ltb, eq-eqb, ne-eqb, ltb-true}
-use Rattle.rules.specs.Lists.{range, allFrom, all, sum}
+use Rattle.rules.specs.Lists.{range, allFrom, all, sum, Strict}
 use Rattle.rules.specs.Store.{nodeCount, edgeCount, constraintCount, edgesAt, constraintsAt, nodePart, edgePart, constraintPart, nodesIn, edgesIn, constraintsIn, constraintAt, fromAt, toAt}
 use Rattle.rules.specs.Store.{headerRight, recordsRight, nodesRight, edgesRight, edgeRight, edgeAlone, edgeBefore, constraintsRight, constraintRight, constraintAlone, alike}
 use Rattle.rules.specs.Graph.{Graph, graphOf, storeGraph, neighbours, labelled}
@@ -17,12 +17,13 @@ use Rattle.rules.specs.declared.Constraint.{Constraint}
 use Rattle.rules.specs.declared.Entry.{Entry}
 use Rattle.laws.specs.Cases.{first-holds, second-holds}
 use Rattle.laws.specs.Header.{header-limits, header-ends}
-use Rattle.build.specs.Packed.{EdgesBelow, labelledIn}
+use Rattle.build.specs.Packed.{EdgesBelow, forwardWords, labelledIn}
 use Rattle.build.specs.Keyed.{keyedFrom, labelsLeft}
 use Rattle.build.specs.Emit.{sinkOf, Placed}
-use Rattle.build.specs.Pass.{aboveFor, keyedBy, joinedSet, forwardSet, Sound, Right, nothing, passed}
+use Rattle.build.specs.Pass.{aboveFor, keyedBy, joinedSet, Sound, Right, nothing, passed}
 use Rattle.build.specs.declared.Task.{Task}
 use Rattle.build.specs.declared.Tally.{Tally}
+use Rattle.build.proofs.Edges.{less-word, words-strict}
 use Rattle.build.proofs.Groups.{keyedIn, toGroup, groups-of, satisfies-keyed, map-append, map-map}
 use Rattle.build.proofs.Graphs.{graph-joined, graph-labelled, labels-of}
 use Rattle.build.proofs.Items.{Item, item, listIn, total, emitItems, itemsFrom, visited-items, groupFor, count-fits, count-over}
@@ -63,14 +64,39 @@ module _ (s : List ℕ) (header : headerRight s ≡ true) where
       omega arith
 
   module _ (records : recordsRight s ≡ true) where
-    each-edge : (i : ℕ) → i < edgesIn (edgePart s) → edgeAlone (nodeCount s) (edgePart s) i ≡ true
-    unfolding recordsRight edgesRight edgeRight
+    each-edge : (i : ℕ) → i < edgesIn (edgePart s) → edgeRight (nodeCount s) (edgePart s) i ≡ true
+    unfolding recordsRight edgesRight
     each-edge i h =
-        first-holds (edgeAlone (nodeCount s) (edgePart s) i) (eqb i 0 || edgeBefore (edgePart s) (i - 1) i)
-        (all-at (edgeRight (nodeCount s) (edgePart s)) 0 (edgesIn (edgePart s)) i (second-holds (nodesRight (nodePart s)) (edgesRight (nodeCount s) (edgePart s)) records) (omega arith) (omega arith))
+        all-at (edgeRight (nodeCount s) (edgePart s)) 0 (edgesIn (edgePart s)) i (second-holds (nodesRight (nodePart s)) (edgesRight (nodeCount s) (edgePart s)) records) (omega arith) (omega arith)
+
+    both-ends : (i : ℕ) → i < edgesIn (edgePart s) → (fromAt (edgePart s) i < nodeCount s) × (toAt (edgePart s) i < nodeCount s)
+    unfolding edgeRight edgeAlone
+    both-ends i h =
+        let a = ltb (fromAt (edgePart s) i) (nodeCount s) in
+        let b = ltb (toAt (edgePart s) i) (nodeCount s) in
+        let c = not (eqb (fromAt (edgePart s) i) (toAt (edgePart s) i)) in
+        let both : (a && b) ≡ true = first-holds (a && b) c (first-holds (a && b && c) (eqb i 0 || edgeBefore (edgePart s) (i - 1) i) (each-edge i h)) in
+        (ltb-true _ _ (first-holds a b both), ltb-true _ _ (second-holds a b both))
+
+    ends-below : EdgesBelow (edgePart s)
+    ends-below =
+        let l = header-limits s header in
+        record {
+          from = λ i h. let e = both-ends i h .0 in omega (arith, l .nodes);
+          to = λ i h. let e = both-ends i h .1 in omega (arith, l .nodes);
+        }
+
+    next-after : (i : ℕ) → i + 1 < edgesIn (edgePart s) → edgeBefore (edgePart s) i (i + 1) ≡ true
+    unfolding edgeRight
+    next-after i h =
+        let one : i + 1 - 1 ≡ i = omega arith in
+        let after = second-holds (edgeAlone (nodeCount s) (edgePart s) (i + 1)) (eqb (i + 1) 0 || edgeBefore (edgePart s) (i + 1 - 1) (i + 1)) (each-edge (i + 1) h) in
+        rw (ne-eqb (i + 1) 0 (λ e. omega arith), one) at after
+
+    edges-ascend : Strict (forwardWords (edgePart s))
+    edges-ascend = words-strict (edgePart s) (λ i h. less-word (edgePart s) i (i + 1) (ends-below .to i (omega arith)) (next-after i h))
 
     pub sound : Sound s
-    unfolding edgeAlone
     sound =
         let l = header-limits s header in
         let e = header-ends s header in
@@ -79,20 +105,8 @@ module _ (s : List ℕ) (header : headerRight s ≡ true) where
           nodes = omega (arith, node-number, l .nodes);
           edges = omega (arith, edge-number, l .edges);
           constraints = omega (arith, constraint-number, l .constraints);
-          below = record {
-            from = λ i h.
-                let a = ltb (fromAt (edgePart s) i) (nodeCount s) in
-                let b = ltb (toAt (edgePart s) i) (nodeCount s) in
-                let c = not (eqb (fromAt (edgePart s) i) (toAt (edgePart s) i)) in
-                let f : fromAt (edgePart s) i < nodeCount s = ltb-true _ _ (first-holds a b (first-holds (a && b) c (each-edge i h))) in
-                omega (arith, l .nodes);
-            to = λ i h.
-                let a = ltb (fromAt (edgePart s) i) (nodeCount s) in
-                let b = ltb (toAt (edgePart s) i) (nodeCount s) in
-                let c = not (eqb (fromAt (edgePart s) i) (toAt (edgePart s) i)) in
-                let f : toAt (edgePart s) i < nodeCount s = ltb-true _ _ (second-holds a b (first-holds (a && b) c (each-edge i h))) in
-                omega (arith, l .nodes);
-          };
+          below = ends-below;
+          ascends = edges-ascend;
         }
 
 -- ---- keys
@@ -167,21 +181,21 @@ module _ {s : List ℕ} (right : Right s) where
 
   module _ (task : Task) (store : List ℕ) where
     unfoldable pub itemsOf : List Item
-    itemsOf = itemsFrom task (forwardSet (edgePart s)) store (nodePart s) (joinedSet (edgePart s)) (constraintPart s) 0 (constraintsIn (constraintPart s))
+    itemsOf = itemsFrom task (forwardWords (edgePart s)) store (nodePart s) (joinedSet (edgePart s)) (constraintPart s) 0 (constraintsIn (constraintPart s))
 
-    pub passed-items : (room : List ℕ) → passed task s store room ≡ emitItems task (forwardSet (edgePart s)) store (sinkOf nothing room) itemsOf
+    pub passed-items : (room : List ℕ) → passed task s store room ≡ emitItems task (forwardWords (edgePart s)) store (sinkOf nothing room) itemsOf
     unfolding passed itemsOf
-    passed-items room = visited-items task (forwardSet (edgePart s)) store (nodePart s) (joinedSet (edgePart s)) (constraintPart s) (sinkOf nothing room)
+    passed-items room = visited-items task (forwardWords (edgePart s)) store (nodePart s) (joinedSet (edgePart s)) (constraintPart s) (sinkOf nothing room)
 
     pub index-items : task .above ≡ 0 → map (groupFor (storeGraph s)) itemsOf ≡ storeIndex s
     unfolding storeIndex indexOf storeGraph itemsOf
     index-items z =
-        items-groups task (nodePart s) (edgePart s) (right-sound .below) (forwardSet (edgePart s)) store (constraintPart s) each-constraint z 0 (constraintsIn (constraintPart s)) (omega arith)
+        items-groups task (nodePart s) (edgePart s) (right-sound .below) (forwardWords (edgePart s)) store (constraintPart s) each-constraint z 0 (constraintsIn (constraintPart s)) (omega arith)
 
     pub exceeds-items : (task .above ≡ 0 → ⊥) → exceeds s ≡ not (eqb (length itemsOf) 0)
     unfolding exceeds storeGraph itemsOf
     exceeds-items z =
-        ap not (items-none task (nodePart s) (edgePart s) (right-sound .below) (forwardSet (edgePart s)) store (constraintPart s) each-constraint z 0 (constraintsIn (constraintPart s)) (omega arith))
+        ap not (items-none task (nodePart s) (edgePart s) (right-sound .below) (forwardWords (edgePart s)) store (constraintPart s) each-constraint z 0 (constraintsIn (constraintPart s)) (omega arith))
 
     pub index-length : task .above ≡ 0 → length (storeIndex s) ≡ length itemsOf
     index-length z = ap length (sym (index-items z)) ∙ length-map itemsOf (groupFor (storeGraph s))
@@ -211,7 +225,7 @@ exceeds-told {s} right r room room′ e = go (decLe (length xs) 0)
     xs = itemsOf right exceedTask s
 
     words : List ℕ
-    words = forwardSet (edgePart s)
+    words = forwardWords (edgePart s)
 
     e′ : r .stopped ≡ emitItems exceedTask words s (sinkOf nothing room) xs .tally .stopped
     e′ = ap (λ x. x .tally .stopped) (e ∙ passed-items right exceedTask s room)
@@ -235,7 +249,7 @@ count-told {s} right r room room′ e = go (decLe (length xs) 262144) (decLe (to
     xs = itemsOf right countTask s
 
     words : List ℕ
-    words = forwardSet (edgePart s)
+    words = forwardWords (edgePart s)
 
     e′ : sinkOf r room′ ≡ emitItems countTask words s (sinkOf nothing room) xs
     e′ = e ∙ passed-items right countTask s room

@@ -1,9 +1,12 @@
 pub mod Filling
 pub mod Kept
 pub mod Ranges
+pub mod Edges
+pub mod Joining
 pub mod Records
 pub mod Comparing
 pub mod Emitting
+pub mod Nearby
 pub mod Going
 pub mod Passing
 pub mod Groups

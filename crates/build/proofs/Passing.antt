@@ -2,53 +2,27 @@
 use native.Mathlib.Omega.{arith}
 use mathlib.Core.Path.{_≡_, refl, sym, ap, _∙_}
 use mathlib.Core.Bool.{Bool, true, false, cond}
-use mathlib.Core.List.{List, [], _∷_, _++_, map, append-assoc}
-use Prim.Native.Nat.{ℕ, _+_, _*_, _≤_}
+use mathlib.Core.List.{List, [], _∷_}
+use Prim.Native.Nat.{ℕ, _*_, _≤_}
 use lib.Dec.{eqb}
-use lib.ListN.{length, take, drop, replicate, length-append, length-map, length-replicate}
-use lib.Seq.{take-at}
-use borrow.Rule.Slice.PartMut.{putMid}
+use lib.ListN.{length, replicate, length-replicate}
 use borrow.Author.Tests.{eq-eqb, ne-eqb}
-use Rattle.rules.specs.Lists.{range, sortOf, setOf, padded}
+use Rattle.rules.specs.Lists.{range, padded, Strict}
 use Rattle.rules.specs.Store.{edgesIn, nodesIn, constraintAt, nodePart, edgePart, constraintPart}
 use Rattle.rules.specs.Index.{noId}
 use Rattle.rules.specs.declared.Constraint.{Constraint}
 use Rattle.laws.specs.Keeping.{keep-most}
-use Rattle.build.specs.Packed.{EdgesBelow, hasLabel, labelledIn}
+use Rattle.build.specs.Packed.{EdgesBelow, forwardWords, hasLabel, labelledIn}
+use Rattle.build.specs.Near.{Joined}
 use Rattle.build.specs.Keyed.{labelsLeft}
 use Rattle.build.specs.Emit.{Sink, sinkOf, emitAll, Placed}
 use Rattle.build.specs.Walk.{Fit, Done}
-use Rattle.build.specs.Pass.{forwardSet, joinedSet, aboveFor, taskFor, keyedBy, visited, visitedAll, Ready, Sound, nothing, passed}
+use Rattle.build.specs.Pass.{joinedSet, aboveFor, taskFor, keyedBy, visited, visitedAll, Ready, Sound, nothing, passed}
 use Rattle.build.specs.declared.Task.{Task}
 use Rattle.build.specs.declared.Tally.{Tally}
 use Rattle.build.specs.declared.Labels.{Labels}
 use Rattle.build.proofs.Ranges.{length-range}
-
--- a set at the front of a run
-pub set-front : (w l last rest : List ℕ) (r : ℕ) → w ≡ l → r ≡ length (setOf w) → last ≡ setOf w ++ drop r (sortOf w)
-    → (r ≤ length (last ++ rest)) × (take r (last ++ rest) ≡ setOf l)
-set-front w l last rest r e q p =
-    let s : last ++ rest ≡ setOf w ++ (drop r (sortOf w) ++ rest) = ap (λ x. x ++ rest) p ∙ append-assoc (setOf w) (drop r (sortOf w)) rest in
-    let n : length (last ++ rest) ≡ length (setOf w) + length (drop r (sortOf w) ++ rest) = ap length s ∙ length-append (setOf w) (drop r (sortOf w) ++ rest) in
-    (omega arith, ap (take r) s ∙ take-at (setOf w) (drop r (sortOf w) ++ rest) r (sym q) ∙ ap setOf e)
-
-pub length-words : (f : ℕ → ℕ) (n : ℕ) → length (map f (range 0 n)) ≡ n
-length-words f n = length-map (range 0 n) f ∙ length-range 0 n
-
--- what was written over the front
-pub front : (f : ℕ → ℕ) (n : ℕ) (w rest : List ℕ) → w ≡ map f (range 0 n) ++ rest → take n w ≡ map f (range 0 n)
-front f n w rest e = ap (take n) e ∙ take-at (map f (range 0 n)) rest n (length-words f n)
-
--- two runs of words, one after the other
-pub both-front : (f g : ℕ → ℕ) (m k : ℕ) (w last rest more : List ℕ) → w ≡ map f (range 0 m) ++ rest → last ≡ map g (range 0 m) ++ more
-    → take (m * 2) (putMid m k w last) ≡ map f (range 0 m) ++ map g (range 0 m)
-both-front f g m k w last rest more p q =
-    let a = map f (range 0 m) in
-    let b = map g (range 0 m) in
-    let x = drop k (drop m w) in
-    let n : length (a ++ b) ≡ m * 2 = length-append a b ∙ rw (length-words f m, length-words g m) (omega arith) in
-    ap (take (m * 2)) (ap (λ l. l ++ (last ++ x)) (front f m w rest p) ∙ ap (λ l. a ++ (l ++ x)) q ∙ ap (λ l. a ++ l) (append-assoc b more x) ∙ sym (append-assoc a b (more ++ x)))
-    ∙ take-at (a ++ b) (more ++ x) (m * 2) n
+use Rattle.build.proofs.Nearby.{labelled-strict}
 
 -- the task of a constraint
 module _ (task : Task) (d : Constraint) where
@@ -77,43 +51,47 @@ pub labelled-few : (nodes : List ℕ) (l : ℕ) → length (labelledIn nodes l) 
 unfolding labelledIn
 labelled-few nodes l = let h = keep-most (hasLabel nodes l) (range 0 (nodesIn nodes)) in omega (arith, length-range 0 (nodesIn nodes))
 
-module _ {task own : Task} {nodes constraints a b c d store room b′ c′ d′ room′ list : List ℕ} {left : Labels} (r : Ready task nodes constraints a b c d store room) where
+module _ {task own : Task} {nodes joined constraints a b c d e f g store room b′ c′ d′ e′ f′ g′ room′ list : List ℕ} {left : Labels}
+    (r : Ready task nodes joined constraints a b c d e f g store room) where
   pub fit-start : (n : ℕ) (x : Constraint) → own ≡ taskFor task x → list ≡ labelledIn nodes (x .label)
-      → length b′ ≡ length b → length c′ ≡ length c → length d′ ≡ length d → length room′ ≡ length room
-      → Fit own nodes left (record { constraint = n; first = noId; second = noId; third = noId }) 0 list b′ c′ d′ store room′
+      → (length b′ ≡ length b) × (length e′ ≡ length e) → (length c′ ≡ length c) × (length f′ ≡ length f) → (length d′ ≡ length d) × (length g′ ≡ length g) → length room′ ≡ length room
+      → Fit own nodes joined left (record { constraint = n; first = noId; second = noId; third = noId }) 0 list b′ c′ d′ e′ f′ g′ store room′
   unfolding padded
-  fit-start n x e l eb ec ed er =
+  fit-start n x q l one two three er =
       let few = r .few in
       let less : length list ≤ nodesIn nodes = rw l (labelled-few nodes (x .label)) in
       let level = labels-few (left .first) (left .second) (left .third) in
       record {
         placed =
-            rw (e, er)
+            rw (q, er)
             (record {
               writes = λ m. record { table = r .placed .writes m .table; lists = r .placed .writes m .lists };
               reads = λ m o. record { table = r .placed .reads m o .table; lists = r .placed .reads m o .lists };
             });
         few = r .few;
+        both = r .both;
         short = omega arith;
+        ascends = rw l (labelled-strict nodes (x .label));
         level = omega arith;
         unused = refl;
-        first = λ z. rw eb (r .one);
-        second = λ z. rw ec (r .two);
-        third = λ z. rw ed (r .three);
+        first = λ z. rw (one .0, one .1) (r .one);
+        second = λ z. rw (two .0, two .1) (r .two);
+        third = λ z. rw (three .0, three .1) (r .three);
       }
 
 -- rooms of the same length serve as well
-pub ready-same : {task : Task} {nodes constraints a b c d store room a′ b′ c′ d′ room′ : List ℕ} → Ready task nodes constraints a b c d store room
-    → length a′ ≡ length a → length b′ ≡ length b → length c′ ≡ length c → length d′ ≡ length d → length room′ ≡ length room
-    → Ready task nodes constraints a′ b′ c′ d′ store room′
-ready-same r ea eb ec ed er = record {
+pub ready-same : {task : Task} {nodes joined constraints a b c d e f g store room a′ b′ c′ d′ e′ f′ g′ room′ : List ℕ} → Ready task nodes joined constraints a b c d e f g store room
+    → length a′ ≡ length a → (length b′ ≡ length b) × (length e′ ≡ length e) → (length c′ ≡ length c) × (length f′ ≡ length f) → (length d′ ≡ length d) × (length g′ ≡ length g)
+    → length room′ ≡ length room → Ready task nodes joined constraints a′ b′ c′ d′ e′ f′ g′ store room′
+ready-same r zero one two three er = record {
   placed = rw er (r .placed);
   few = r .few;
+  both = r .both;
   limited = r .limited;
-  zero = rw ea (r .zero);
-  one = rw eb (r .one);
-  two = rw ec (r .two);
-  three = rw ed (r .three);
+  zero = rw zero (r .zero);
+  one = rw (one .0, one .1) (r .one);
+  two = rw (two .0, two .1) (r .two);
+  three = rw (three .0, three .1) (r .three);
 }
 
 pub visit-done : {own : Task} {list : List ℕ} {x : Constraint} (task : Task) (nodes joined words constraints store : List ℕ) (n : ℕ) (t : Tally) (room : List ℕ) (t′ : Tally) (room′ : List ℕ)
@@ -125,31 +103,33 @@ visit-done task nodes joined words constraints store n t room t′ room′ p e l
     rw (e, l) at (d .all) ∙ ap (λ x. emitAll (taskFor task x) words store n (sinkOf t room) (keyedBy task nodes joined x)) p
 
 -- ---- the sections of a store
-pub edges-fit : (r s : List ℕ) → r ≡ edgePart s → Sound s → (edgesIn r ≤ 262144) × EdgesBelow r
-edges-fit r s e d = (rw e (d .edges), rw e (d .below))
+pub edges-fit : (r s : List ℕ) → r ≡ edgePart s → Sound s → (edgesIn r ≤ 262144) × (EdgesBelow r × Strict (forwardWords r))
+edges-fit r s e d = (rw e (d .edges), (rw e (d .below), rw e (d .ascends)))
 
-pub ready-own : (task : Task) (s nodes constraints a b c d store room : List ℕ) → nodes ≡ nodePart s → constraints ≡ constraintPart s → Sound s → Placed task (length store) (length room)
-    → 65536 ≤ length a → 65536 ≤ length b → 65536 ≤ length c → 65536 ≤ length d → Ready task nodes constraints a b c d store room
-ready-own task s nodes constraints a b c d store room en ec f p ha hb hc hd = record {
+pub ready-own : (task : Task) (s nodes joined constraints a b c d e f g store room : List ℕ) → nodes ≡ nodePart s → constraints ≡ constraintPart s → Sound s → Joined joined
+    → Placed task (length store) (length room) → 65536 ≤ length a → (65536 ≤ length b) × (65536 ≤ length e) → (65536 ≤ length c) × (65536 ≤ length f)
+    → (65536 ≤ length d) × (65536 ≤ length g) → Ready task nodes joined constraints a b c d e f g store room
+ready-own task s nodes joined constraints a b c d e f g store room en ec h j p zero one two three = record {
   placed = p;
-  few = rw en (f .nodes);
-  limited = rw ec (f .constraints);
-  zero = ha;
-  one = hb;
-  two = hc;
-  three = hd;
+  few = rw en (h .nodes);
+  both = j;
+  limited = rw ec (h .constraints);
+  zero = zero;
+  one = one;
+  two = two;
+  three = three;
 }
 
-pub own-done : (task : Task) (s nodes constraints joined words store : List ℕ) (r x : Sink) → nodes ≡ nodePart s → constraints ≡ constraintPart s
-    → r ≡ visitedAll task nodes joined words constraints store x → r ≡ visitedAll task (nodePart s) joined words (constraintPart s) store x
-own-done task s nodes constraints joined words store r x en ec e = e ∙ ap (λ l. visitedAll task l joined words constraints store x) en ∙ ap (λ l. visitedAll task (nodePart s) joined words l store x) ec
+pub own-done : (task : Task) (s nodes edges constraints joined store : List ℕ) (r x : Sink) → nodes ≡ nodePart s → edges ≡ edgePart s → constraints ≡ constraintPart s
+    → r ≡ visitedAll task nodes joined (forwardWords edges) constraints store x → r ≡ visitedAll task (nodePart s) joined (forwardWords (edgePart s)) (constraintPart s) store x
+own-done task s nodes edges constraints joined store r x en ee ec e =
+    e ∙ ap (λ l. visitedAll task l joined (forwardWords edges) constraints store x) en ∙ ap (λ l. visitedAll task (nodePart s) joined (forwardWords l) constraints store x) ee
+    ∙ ap (λ l. visitedAll task (nodePart s) joined (forwardWords (edgePart s)) l store x) ec
 
-pub pass-done : (task : Task) (s joined words store room : List ℕ) (r : Sink) → joined ≡ joinedSet (edgePart s) → words ≡ forwardSet (edgePart s)
-    → r ≡ visitedAll task (nodePart s) joined words (constraintPart s) store (sinkOf nothing room) → r ≡ passed task s store room
+pub pass-done : (task : Task) (s joined store room : List ℕ) (r : Sink) → joined ≡ joinedSet (edgePart s)
+    → r ≡ visitedAll task (nodePart s) joined (forwardWords (edgePart s)) (constraintPart s) store (sinkOf nothing room) → r ≡ passed task s store room
 unfolding passed
-pass-done task s joined words store room r ej ew e =
-    e ∙ ap (λ l. visitedAll task (nodePart s) l words (constraintPart s) store (sinkOf nothing room)) ej
-    ∙ ap (λ l. visitedAll task (nodePart s) (joinedSet (edgePart s)) l (constraintPart s) store (sinkOf nothing room)) ew
+pass-done task s joined store room r ej e = e ∙ ap (λ l. visitedAll task (nodePart s) l (forwardWords (edgePart s)) (constraintPart s) store (sinkOf nothing room)) ej
 
 pub twice-fits : (n m : ℕ) → n ≤ 262144 → 524288 ≤ m → n * 2 ≤ m
 twice-fits n m h k = omega arith

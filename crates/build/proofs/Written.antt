@@ -14,10 +14,10 @@ use Rattle.rules.specs.Store.{edgePart, nodePart, constraintPart, constraintsIn
 use Rattle.rules.specs.Graph.{storeGraph, graphOf}
 use Rattle.rules.specs.Index.{groupBytes, entryBytes, storeIndex, entryTotal}
 use Rattle.laws.specs.Keeping.{all-flat}
-use Rattle.build.specs.Packed.{wordIn, labelledIn}
+use Rattle.build.specs.Packed.{forwardWords, wordIn, labelledIn}
 use Rattle.build.specs.Keyed.{Keyed, keyedFrom, labelsLeft}
 use Rattle.build.specs.Emit.{sinkOf, Placed}
-use Rattle.build.specs.Pass.{keyedBy, aboveFor, forwardSet, joinedSet, Right, passed}
+use Rattle.build.specs.Pass.{keyedBy, aboveFor, joinedSet, Right, passed}
 use Rattle.build.specs.declared.Task.{Task}
 use Rattle.build.specs.declared.Tally.{Tally}
 use Rattle.build.proofs.Going.{keyed-short, keyed-here, keyed-on}
@@ -68,9 +68,9 @@ pub placed-write : (at g e a b : ℕ) → at + g * 24 + e * 8 ≤ b → Placed (
 placed-write at g e a b h = record { writes = λ o. record { table = omega arith; lists = omega arith }; reads = λ n o. absurd (o refl) }
 
 module _ {s : List ℕ} (right : Right s) where
-  pub told : Told (storeGraph s) (forwardSet (edgePart s))
+  pub told : Told (storeGraph s) (forwardWords (edgePart s))
   unfolding storeGraph graphOf
-  told = record { edges = graph-edges (edgePart s) (right-sound right .below) }
+  told = record { edges = graph-edges (edgePart s) (right-sound right .below) (right-sound right .ascends) }
 
   pub index-written : (at g e : ℕ) (r : Tally) (room room′ : List ℕ) → g ≡ length (storeIndex s) → e ≡ entryTotal (storeIndex s) → at + g * 24 + e * 8 ≤ length room
       → sinkOf r room′ ≡ passed (writeTask at g e) s s room
@@ -78,7 +78,7 @@ module _ {s : List ℕ} (right : Right s) where
   unfolding itemsOf
   index-written at g e r room room′ eg ee fits q =
       let task = writeTask at g e in
-      let words = forwardSet (edgePart s) in
+      let words = forwardWords (edgePart s) in
       let xs = itemsOf right task s in
       let n : length (storeIndex s) ≡ length xs = index-length right task s refl in
       let m : entryTotal (storeIndex s) ≡ total xs = index-total right task s refl in
@@ -99,7 +99,7 @@ module _ {s : List ℕ} (right : Right s) where
       let n : length (storeIndex s) ≡ length xs = index-length right task s refl in
       let m : entryTotal (storeIndex s) ≡ total xs = index-total right task s refl in
       let i : map (groupFor (storeGraph s)) xs ≡ storeIndex s = index-items right task s refl in
-      let sh : all short xs ≡ true = all-short task (forwardSet (edgePart s)) s (nodePart s) (joinedSet (edgePart s)) (constraintPart s) 0 (constraintsIn (constraintPart s)) in
+      let sh : all short xs ≡ true = all-short task (forwardWords (edgePart s)) s (nodePart s) (joinedSet (edgePart s)) (constraintPart s) 0 (constraintsIn (constraintPart s)) in
       let a : length (groupBytes 0 (storeIndex s)) ≡ length xs * 24 = rw i at (length-groups (storeGraph s) 0 xs) in
       let b : length (entryBytes (storeIndex s)) ≡ total xs * 8 = rw i at (length-entries told xs sh) in
       (omega arith, omega arith)

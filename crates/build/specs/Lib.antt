@@ -1,4 +1,5 @@
 pub mod Packed
+pub mod Near
 pub mod Keyed
 pub mod Emit
 pub mod Walk

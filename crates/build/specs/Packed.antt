@@ -1,7 +1,7 @@
 -- Edges as packed words: an edge from u to v is the word u * 65,536 + v. Ids are below 65,536.
 use Prim.Native.Nat.{ℕ, _+_, _*_, _<_}
 use mathlib.Core.Bool.{Bool, _&&_}
-use mathlib.Core.List.{List}
+use mathlib.Core.List.{List, map}
 use lib.Dec.{ltb, eqb}
 use Rattle.rules.specs.Lists.{range, keep}
 use Rattle.rules.specs.Store.{fromAt, toAt, edgesIn, nodesIn, labelAt}
@@ -13,6 +13,10 @@ forwardAt edges i = fromAt edges i * 65536 + toAt edges i
 
 unfoldable pub backwardAt : List ℕ → ℕ → ℕ
 backwardAt edges i = toAt edges i * 65536 + fromAt edges i
+
+-- the edges as words
+unfoldable pub forwardWords : List ℕ → List ℕ
+forwardWords edges = map (forwardAt edges) (range 0 (edgesIn edges))
 
 -- both ends of every edge are below 65,536
 pub record EdgesBelow (edges : List ℕ) : Type 0 where

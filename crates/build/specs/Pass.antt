@@ -5,24 +5,22 @@ use mathlib.Core.Bool.{Bool, cond, true, false, _&&_}
 use mathlib.Core.List.{List, [], _++_, map}
 use lib.Dec.{eqb}
 use lib.ListN.{length}
-use Rattle.rules.specs.Lists.{range, foldFrom, setOf}
+use Rattle.rules.specs.Lists.{range, foldFrom, setOf, Strict}
 use Rattle.rules.specs.Store.{edgesIn, nodesIn, constraintsIn, constraintAt, groupsAt, nodePart, edgePart, constraintPart, headerRight, draftRight, recordsRight, constraintsRight}
 use Rattle.rules.specs.Words.{part}
 use Rattle.rules.specs.Index.{storeIndex, entryTotal, groupBytes, entryBytes}
 use Rattle.rules.specs.Answers.{same}
 use Rattle.rules.specs.declared.Constraint.{Constraint}
-use Rattle.build.specs.Packed.{forwardAt, backwardAt, EdgesBelow, wordIn, labelledIn}
+use Rattle.build.specs.Packed.{backwardAt, EdgesBelow, forwardWords, wordIn, labelledIn}
+use Rattle.build.specs.Near.{Joined}
 use Rattle.build.specs.Keyed.{Keyed, keyedFrom, labelsLeft}
 use Rattle.build.specs.Emit.{Placed, Sink, sinkOf, emitAll}
 use Rattle.build.specs.declared.Task.{Task}
 use Rattle.build.specs.declared.Tally.{Tally}
 
--- the edges as words, and the edges both ways round
-unfoldable pub forwardSet : List ℕ → List ℕ
-forwardSet edges = setOf (map (forwardAt edges) (range 0 (edgesIn edges)))
-
+-- the edges as words, each both ways round, ascending
 unfoldable pub joinedSet : List ℕ → List ℕ
-joinedSet edges = setOf (map (forwardAt edges) (range 0 (edgesIn edges)) ++ map (backwardAt edges) (range 0 (edgesIn edges)))
+joinedSet edges = setOf (forwardWords edges ++ map (backwardAt edges) (range 0 (edgesIn edges)))
 
 -- lists longer than this: than N where the task asks for it, else all that are not empty
 unfoldable pub aboveFor : Task → Constraint → ℕ
@@ -45,23 +43,25 @@ unfoldable pub visitedAll : Task → List ℕ → List ℕ → List ℕ → List
 visitedAll task nodes joined words constraints store s =
     foldFrom (visited task nodes joined words constraints store) 0 (constraintsIn constraints) s
 
--- the rooms are long enough
-pub record Ready (task : Task) (nodes constraints a b c d store room : List ℕ) : Type 0 where
+-- the rooms for lists (a, b, c, d) and for the nodes that are tried (e, f, g) are long enough
+pub record Ready (task : Task) (nodes joined constraints a b c d e f g store room : List ℕ) : Type 0 where
   pub placed : Placed task (length store) (length room)
   pub few : nodesIn nodes ≤ 65535
+  pub both : Joined joined
   pub limited : constraintsIn constraints ≤ 32
   pub zero : 65536 ≤ length a
-  pub one : 65536 ≤ length b
-  pub two : 65536 ≤ length c
-  pub three : 65536 ≤ length d
+  pub one : (65536 ≤ length b) × (65536 ≤ length e)
+  pub two : (65536 ≤ length c) × (65536 ≤ length f)
+  pub three : (65536 ≤ length d) × (65536 ≤ length g)
 
--- a store whose sections are there and whose edges are below the number of nodes
+-- a store whose sections are there and whose edges, as words, ascend
 pub record Sound (s : List ℕ) : Type 0 where
   pub long : groupsAt s ≤ length s
   pub nodes : nodesIn (nodePart s) ≤ 65535
   pub edges : edgesIn (edgePart s) ≤ 262144
   pub constraints : constraintsIn (constraintPart s) ≤ 32
   pub below : EdgesBelow (edgePart s)
+  pub ascends : Strict (forwardWords (edgePart s))
 
 -- nothing counted yet
 abbrev pub nothing : Tally
@@ -70,13 +70,22 @@ nothing = record { groups = 0; entries = 0; stopped = false }
 -- all groups of a store's graph are dealt with
 unfoldable pub passed : Task → List ℕ → List ℕ → List ℕ → Sink
 passed task s store room =
-    visitedAll task (nodePart s) (joinedSet (edgePart s)) (forwardSet (edgePart s)) (constraintPart s) store (sinkOf nothing room)
+    visitedAll task (nodePart s) (joinedSet (edgePart s)) (forwardWords (edgePart s)) (constraintPart s) store (sinkOf nothing room)
 
 -- a store or draft without refusal 1, 2 or 3
 pub record Right (s : List ℕ) : Type 0 where
   pub header : headerRight s ≡ true
   pub records : recordsRight s ≡ true
   pub constraints : constraintsRight (constraintPart s) ≡ true
+
+-- its edges, as words, each both ways round, are at hand too
+pub record AtHand (s joined : List ℕ) : Type 0 where
+  pub right : Right s
+  pub words : joined ≡ joinedSet (edgePart s)
+
+-- the number of refusal 2 or 3, 0 for neither
+unfoldable pub recordNumber : List ℕ → ℕ
+recordNumber s = elim (recordsRight s) [ true ↦ elim (constraintsRight (constraintPart s)) [ true ↦ 0 | false ↦ 3 ] | false ↦ 2 ]
 
 -- a draft whose store has so many groups and entries, and fits into n bytes
 pub record Fitting (draft : List ℕ) (g e n : ℕ) : Type 0 where

@@ -5,10 +5,11 @@ ghost use Prim.Native.Nat.{_≤_, _<_};
 ghost use lib.ListN.{length, take, drop};
 ghost use Rattle.rules.specs.Lists.{range, keep};
 ghost use Rattle.rules.specs.Store.{edgesIn, nodesIn};
-ghost use Rattle.build.specs.Packed.{forwardAt, backwardAt, EdgesBelow, wordIn, hasLabel, labelledIn};
+ghost use Rattle.laws.specs.Searching.{isBelow, lower, standsIn};
+ghost use Rattle.build.specs.Packed.{forwardAt, backwardAt, EdgesBelow, forwardWords, wordIn, hasLabel, labelledIn};
 
 // Edge i as a word: where it comes from, then where it goes to.
-fn forward_at(edges: &[u8], i: usize) -> u32
+pub fn forward_at(edges: &[u8], i: usize) -> u32
     requires { ⌜ (i < edgesIn (now edges)) × EdgesBelow (now edges) ⌝ }
     ensures { λ r. ⌜ r ≡ forwardAt (now (edges .entry)) i ⌝ }
 {
@@ -25,19 +26,6 @@ fn backward_at(edges: &[u8], i: usize) -> u32
     edge.to * 65536 + edge.from
 }
 
-// Writes the edges as words over the front of out.
-pub fn put_forward(edges: &[u8], out: &mut [u32])
-    requires { ⌜ (edgesIn (now edges) ≤ length (now out)) × EdgesBelow (now edges) ⌝ }
-    ensures { λ _. ⌜ now (out .exit) ≡ map (forwardAt (now (edges .entry))) (range 0 (edgesIn (now (edges .entry)))) ++ drop (edgesIn (now (edges .entry))) (now (out .entry)) ⌝ }
-{
-    let m = edges.len() / 8;
-    let mut i = 0;
-    while i < m {
-        out[i] = forward_at(edges, i);
-        i += 1;
-    }
-}
-
 // Writes the edges as words, the other way round, over the front of out.
 pub fn put_backward(edges: &[u8], out: &mut [u32])
     requires { ⌜ (edgesIn (now edges) ≤ length (now out)) × EdgesBelow (now edges) ⌝ }
@@ -49,6 +37,64 @@ pub fn put_backward(edges: &[u8], out: &mut [u32])
         out[i] = backward_at(edges, i);
         i += 1;
     }
+}
+
+// Edge i as a word, also where its ends are too great for 32 bits.
+fn wide_at(edges: &[u8], i: usize) -> u64
+    requires { ⌜ i < edgesIn (now edges) ⌝ }
+    ensures { λ r. ⌜ r ≡ forwardAt (now (edges .entry)) i ⌝ }
+{
+    let edge = store::edge_at(edges, i);
+    edge.from as u64 * 65536 + edge.to as u64
+}
+
+// Whether the word of edge i is below x.
+fn edge_below(edges: &[u8], x: u64, i: usize) -> bool
+    requires { ⌜ i < edgesIn (now edges) ⌝ }
+    ensures { λ r. ⌜ r ≡ isBelow (forwardWords (now (edges .entry))) x i ⌝ }
+{
+    wide_at(edges, i) < x
+}
+
+// The first edge whose word is not below x, or their number if there is none.
+fn lower_edge(edges: &[u8], x: u64) -> usize
+    ensures { λ r. ⌜ (r ≡ lower x (forwardWords (now (edges .entry)))) × (r ≤ edgesIn (now (edges .entry))) ⌝ }
+{
+    let mut low = 0;
+    let mut high = edges.len() / 8;
+    while low < high {
+        let mid = (low + high) / 2;
+        if edge_below(edges, x, mid) {
+            low = mid + 1;
+        } else {
+            high = mid;
+        }
+    }
+    low
+}
+
+// Whether x stands where a binary search in the edges ends.
+fn stands_in(edges: &[u8], x: u64) -> bool
+    ensures { λ r. ⌜ r ≡ standsIn x (forwardWords (now (edges .entry))) ⌝ }
+{
+    let at = lower_edge(edges, x);
+    if edges.len() / 8 <= at {
+        return false;
+    }
+    wide_at(edges, at) == x
+}
+
+// Whether the word of u and v is among the words of the edges.
+pub fn edge_in(edges: &[u8], u: u32, v: u32) -> bool
+    ensures { λ r. ⌜ r ≡ wordIn (forwardWords (now (edges .entry))) u v ⌝ }
+{
+    if 65536 <= u {
+        return false;
+    }
+    if 65536 <= v {
+        return false;
+    }
+    stands_in(edges, u as u64 * 65536 + v as u64)
 }
 
 // Whether the word of u and v is among the words.
@@ -92,7 +138,7 @@ pub fn labelled(nodes: &[u8], l: u16, out: &mut [u32]) -> usize
 }
 
 // Leaves those of a list that are joined with u, in their order, at the front of out, and returns how many they are.
-pub fn shared(joined: &[u32], list: &[u32], u: u32, out: &mut [u32]) -> usize
+pub fn shared_listed(joined: &[u32], list: &[u32], u: u32, out: &mut [u32]) -> usize
     requires { ⌜ length (now list) ≤ length (now out) ⌝ }
     ensures { λ r. ⌜ (r ≤ length (now (list .entry))) × (take r (now (out .exit)) ≡ keep (wordIn (now (joined .entry)) u) (now (list .entry))) ⌝ }
 {

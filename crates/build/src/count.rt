@@ -1,4 +1,4 @@
-// Refusals 2, 3, 4 and 11, and how many groups and entries the index has.
+// Refusals 2 and 3; refusals 4 and 11, and how many groups and entries the index has.
 use crate::Tally;
 use crate::Task;
 use crate::pass::pass;
@@ -8,7 +8,7 @@ ghost use lib.ListN.{length};
 ghost use Rattle.rules.specs.Store.{constraintPart, constraintsRight, groupsAt, headerRight};
 ghost use Rattle.rules.specs.Index.{exceeds, tooMany, storeIndex, entryTotal};
 ghost use Rattle.rules.specs.Answers.{graphNumber};
-ghost use Rattle.build.specs.Pass.{Right};
+ghost use Rattle.build.specs.Pass.{recordNumber, AtHand};
 ghost use Prim.Native.Nat.{_≤_};
 
 // The number of refusal, 0 for none, and then how many groups and entries the index has.
@@ -19,8 +19,8 @@ pub struct Counted {
 }
 
 // Whether some list of the graph exceeds its N.
-fn some_exceeds(s: &[u8]) -> bool
-    requires { ⌜ Right (now s) ⌝ }
+fn some_exceeds(s: &[u8], joined: &[u32]) -> bool
+    requires { ⌜ AtHand (now s) (now joined) ⌝ }
     ensures { λ r. ⌜ r ≡ exceeds (now (s .entry)) ⌝ }
 {
     let mut none = [0u8; 1];
@@ -32,13 +32,13 @@ fn some_exceeds(s: &[u8]) -> bool
         table: 0,
         lists: 0,
     };
-    let t = pass(task, s, s, &mut none);
+    let t = pass(task, s, joined, s, &mut none);
     t.stopped
 }
 
 // Counts the groups and entries of the index, and stops where they are too many.
-fn count_all(s: &[u8]) -> Tally
-    requires { ⌜ Right (now s) ⌝ }
+fn count_all(s: &[u8], joined: &[u32]) -> Tally
+    requires { ⌜ AtHand (now s) (now joined) ⌝ }
     ensures { λ r. ⌜ (r .stopped ≡ tooMany (now (s .entry))) × (r .stopped ≡ false → (r .groups ≡ length (storeIndex (now (s .entry)))) × (r .entries ≡ entryTotal (storeIndex (now (s .entry))))) ⌝ }
 {
     let mut none = [0u8; 1];
@@ -50,7 +50,7 @@ fn count_all(s: &[u8]) -> Tally
         table: 0,
         lists: 0,
     };
-    pass(task, s, s, &mut none)
+    pass(task, s, joined, s, &mut none)
 }
 
 // Whether the constraints of a store are right.
@@ -61,33 +61,33 @@ fn own_constraints_right(s: &[u8]) -> bool
     store::constraints_right(store::constraint_part(s))
 }
 
-// What a store or draft with a right header gives: 2, 3, 4, 11, or 0 and the counts.
-pub fn count(s: &[u8]) -> Counted
+// The number of refusal 2 or 3 of a store or draft with a right header, 0 for neither.
+pub fn record_number(s: &[u8]) -> u32
     requires { ⌜ headerRight (now s) ≡ true ⌝ }
-    ensures { λ r. ⌜ (r .number ≡ graphNumber (now (s .entry))) × (r .number ≡ 0 → (r .groups ≡ length (storeIndex (now (s .entry)))) × (r .entries ≡ entryTotal (storeIndex (now (s .entry))))) ⌝ }
+    ensures { λ r. ⌜ r ≡ recordNumber (now (s .entry)) ⌝ }
 {
     if !store::records_right(s) {
-        return Counted {
-            number: 2,
-            groups: 0,
-            entries: 0,
-        };
+        return 2;
     }
     if !own_constraints_right(s) {
-        return Counted {
-            number: 3,
-            groups: 0,
-            entries: 0,
-        };
+        return 3;
     }
-    if some_exceeds(s) {
+    0
+}
+
+// What a store or draft without refusal 1, 2 or 3 gives: 4, 11, or 0 and the counts.
+pub fn count(s: &[u8], joined: &[u32]) -> Counted
+    requires { ⌜ AtHand (now s) (now joined) ⌝ }
+    ensures { λ r. ⌜ (r .number ≡ graphNumber (now (s .entry))) × (r .number ≡ 0 → (r .groups ≡ length (storeIndex (now (s .entry)))) × (r .entries ≡ entryTotal (storeIndex (now (s .entry))))) ⌝ }
+{
+    if some_exceeds(s, joined) {
         return Counted {
             number: 4,
             groups: 0,
             entries: 0,
         };
     }
-    let all = count_all(s);
+    let all = count_all(s, joined);
     if all.stopped {
         return Counted {
             number: 11,

@@ -1,7 +1,7 @@
 // What is done with a key and its list: counted, written as a group with its entries, or compared with those of a store.
 use crate::Tally;
 use crate::Task;
-use crate::adjacency::word_in;
+use crate::adjacency::edge_in;
 use rules::Key;
 ghost use mathlib.Core.Path.{_≡_};
 ghost use Prim.Native.Nat.{_+_, _*_, _≤_, _<_};
@@ -9,30 +9,31 @@ ghost use mathlib.Core.List.{[], _∷_};
 ghost use lib.ListN.{length};
 ghost use Rattle.rules.specs.Words.{part, over};
 ghost use Rattle.rules.specs.Answers.{same};
+ghost use Rattle.build.specs.Packed.{forwardWords};
 ghost use Rattle.build.specs.Emit.{bitsOf, dirsOf, idsOf, groupRecord, entryRecord, listRecords};
 ghost use Rattle.build.specs.Emit.{within, counted, groupPlace, entryPlace, Fits, Placed, written, agrees, emit, sinkOf};
 
 // The two bits of key node u and entry v.
-fn bits(words: &[u32], u: u32, v: u32) -> u8
-    ensures { λ r. ⌜ (r ≡ bitsOf (now (words .entry)) u v) × (r < 4) ⌝ }
+fn bits(edges: &[u8], u: u32, v: u32) -> u8
+    ensures { λ r. ⌜ (r ≡ bitsOf (forwardWords (now (edges .entry))) u v) × (r < 4) ⌝ }
 {
-    if word_in(words, u, v) {
-        if word_in(words, v, u) {
+    if edge_in(edges, u, v) {
+        if edge_in(edges, v, u) {
             return 3;
         }
         return 1;
     }
-    if word_in(words, v, u) {
+    if edge_in(edges, v, u) {
         return 2;
     }
     0
 }
 
 // The directions of entry v.
-fn directions(words: &[u32], key: Key, v: u32) -> u8
-    ensures { λ r. ⌜ r ≡ dirsOf (now (words .entry)) (idsOf key) v ⌝ }
+fn directions(edges: &[u8], key: Key, v: u32) -> u8
+    ensures { λ r. ⌜ r ≡ dirsOf (forwardWords (now (edges .entry))) (idsOf key) v ⌝ }
 {
-    bits(words, key.first, v) + 4 * (bits(words, key.second, v) + 4 * bits(words, key.third, v))
+    bits(edges, key.first, v) + 4 * (bits(edges, key.second, v) + 4 * bits(edges, key.third, v))
 }
 
 // Writes six words at `at`.
@@ -77,19 +78,19 @@ fn put_directions(room: &mut [u8], at: usize, x: u8)
 }
 
 // Writes an entry record at `at`.
-fn put_entry(words: &[u32], key: Key, v: u32, room: &mut [u8], at: usize)
+fn put_entry(edges: &[u8], key: Key, v: u32, room: &mut [u8], at: usize)
     requires { ⌜ at + 8 ≤ length (now room) ⌝ }
-    ensures { λ _. ⌜ now (room .exit) ≡ over (now (room .entry)) at (entryRecord (now (words .entry)) (idsOf key) v) ⌝ }
+    ensures { λ _. ⌜ now (room .exit) ≡ over (now (room .entry)) at (entryRecord (forwardWords (now (edges .entry))) (idsOf key) v) ⌝ }
 {
-    let x = directions(words, key, v);
+    let x = directions(edges, key, v);
     words::put_u32(room, at, v);
     put_directions(room, at + 4, x);
 }
 
 // Writes the entries of a list from `at` on.
-fn put_list(words: &[u32], key: Key, list: &[u32], room: &mut [u8], at: usize)
+fn put_list(edges: &[u8], key: Key, list: &[u32], room: &mut [u8], at: usize)
     requires { ⌜ at + length (now list) * 8 ≤ length (now room) ⌝ }
-    ensures { λ _. ⌜ now (room .exit) ≡ over (now (room .entry)) at (listRecords (now (words .entry)) (idsOf key) (now (list .entry))) ⌝ }
+    ensures { λ _. ⌜ now (room .exit) ≡ over (now (room .entry)) at (listRecords (forwardWords (now (edges .entry))) (idsOf key) (now (list .entry))) ⌝ }
 {
     let mut i = 0;
     let mut next = at;
@@ -98,7 +99,7 @@ fn put_list(words: &[u32], key: Key, list: &[u32], room: &mut [u8], at: usize)
         let here = next;
         i += 1;
         next += 8;
-        put_entry(words, key, v, room, here);
+        put_entry(edges, key, v, room, here);
     }
 }
 
@@ -132,20 +133,20 @@ fn group_same(store: &[u8], at: usize, key: Key, start: u32, count: u32) -> bool
 }
 
 // Whether an entry record stands at `at`.
-fn entry_same(words: &[u32], key: Key, v: u32, store: &[u8], at: usize) -> bool
+fn entry_same(edges: &[u8], key: Key, v: u32, store: &[u8], at: usize) -> bool
     requires { ⌜ at + 8 ≤ length (now store) ⌝ }
-    ensures { λ r. ⌜ r ≡ same (part (now (store .entry)) at (at + 8)) (entryRecord (now (words .entry)) (idsOf key) v) ⌝ }
+    ensures { λ r. ⌜ r ≡ same (part (now (store .entry)) at (at + 8)) (entryRecord (forwardWords (now (edges .entry))) (idsOf key) v) ⌝ }
 {
     let mut own = [0u8; 8];
-    put_entry(words, key, v, &mut own, 0);
+    put_entry(edges, key, v, &mut own, 0);
     let end = at + 8;
     bytes_same(&store[at..end], &own)
 }
 
 // Whether the entries of a list stand from `at` on.
-fn list_same(words: &[u32], key: Key, list: &[u32], store: &[u8], at: usize) -> bool
+fn list_same(edges: &[u8], key: Key, list: &[u32], store: &[u8], at: usize) -> bool
     requires { ⌜ at + length (now list) * 8 ≤ length (now store) ⌝ }
-    ensures { λ r. ⌜ r ≡ same (part (now (store .entry)) at (at + length (now (list .entry)) * 8)) (listRecords (now (words .entry)) (idsOf key) (now (list .entry))) ⌝ }
+    ensures { λ r. ⌜ r ≡ same (part (now (store .entry)) at (at + length (now (list .entry)) * 8)) (listRecords (forwardWords (now (edges .entry))) (idsOf key) (now (list .entry))) ⌝ }
 {
     let mut i = 0;
     let mut next = at;
@@ -154,7 +155,7 @@ fn list_same(words: &[u32], key: Key, list: &[u32], store: &[u8], at: usize) -> 
         let here = next;
         i += 1;
         next += 8;
-        if !entry_same(words, key, v, store, here) {
+        if !entry_same(edges, key, v, store, here) {
             return false;
         }
     }
@@ -181,14 +182,14 @@ fn one_more(tally: Tally, n: u32, stopped: bool) -> Tally
 }
 
 // Writes a group and its entries at their places.
-fn write_one(task: Task, words: &[u32], key: Key, list: &[u32], room: &mut [u8], tally: Tally)
+fn write_one(task: Task, edges: &[u8], key: Key, list: &[u32], room: &mut [u8], tally: Tally)
     requires { ⌜ Fits task tally (length (now list)) (length (now room)) ⌝ }
-    ensures { λ _. ⌜ now (room .exit) ≡ written task (now (words .entry)) (key .constraint) (idsOf key) (now (list .entry)) tally (now (room .entry)) ⌝ }
+    ensures { λ _. ⌜ now (room .exit) ≡ written task (forwardWords (now (edges .entry))) (key .constraint) (idsOf key) (now (list .entry)) tally (now (room .entry)) ⌝ }
 {
     let at = task.table + tally.groups as usize * 24;
     put_group(room, at, key, tally.entries, list.len() as u32);
     let start = task.lists + tally.entries as usize * 8;
-    put_list(words, key, list, room, start);
+    put_list(edges, key, list, room, start);
 }
 
 // Whether the store has the group at its place.
@@ -201,34 +202,27 @@ fn group_agrees(task: Task, key: Key, count: u32, store: &[u8], tally: Tally) ->
 }
 
 // Whether the store has the entries of a list at their place.
-fn list_agrees(
-    task: Task,
-    words: &[u32],
-    key: Key,
-    list: &[u32],
-    store: &[u8],
-    tally: Tally,
-) -> bool
+fn list_agrees(task: Task, edges: &[u8], key: Key, list: &[u32], store: &[u8], tally: Tally) -> bool
     requires { ⌜ entryPlace task tally + length (now list) * 8 ≤ length (now store) ⌝ }
-    ensures { λ r. ⌜ r ≡ same (part (now (store .entry)) (entryPlace task tally) (entryPlace task tally + length (now (list .entry)) * 8)) (listRecords (now (words .entry)) (idsOf key) (now (list .entry))) ⌝ }
+    ensures { λ r. ⌜ r ≡ same (part (now (store .entry)) (entryPlace task tally) (entryPlace task tally + length (now (list .entry)) * 8)) (listRecords (forwardWords (now (edges .entry))) (idsOf key) (now (list .entry))) ⌝ }
 {
     let start = task.lists + tally.entries as usize * 8;
-    list_same(words, key, list, store, start)
+    list_same(edges, key, list, store, start)
 }
 
 // Whether the store has the group and its entries at their places.
-fn one_agrees(task: Task, words: &[u32], key: Key, list: &[u32], store: &[u8], tally: Tally) -> bool
+fn one_agrees(task: Task, edges: &[u8], key: Key, list: &[u32], store: &[u8], tally: Tally) -> bool
     requires { ⌜ Fits task tally (length (now list)) (length (now store)) ⌝ }
-    ensures { λ r. ⌜ r ≡ agrees task (now (words .entry)) (key .constraint) (idsOf key) (now (list .entry)) tally (now (store .entry)) ⌝ }
+    ensures { λ r. ⌜ r ≡ agrees task (forwardWords (now (edges .entry))) (key .constraint) (idsOf key) (now (list .entry)) tally (now (store .entry)) ⌝ }
 {
     let count = list.len() as u32;
-    group_agrees(task, key, count, store, tally) & list_agrees(task, words, key, list, store, tally)
+    group_agrees(task, key, count, store, tally) & list_agrees(task, edges, key, list, store, tally)
 }
 
 // Does with a key and its list what the task asks.
 pub fn emit_one(
     task: Task,
-    words: &[u32],
+    edges: &[u8],
     key: Key,
     list: &[u32],
     store: &[u8],
@@ -236,7 +230,7 @@ pub fn emit_one(
     tally: Tally,
 ) -> Tally
     requires { ⌜ (length (now list) ≤ 65536) × Placed task (length (now store)) (length (now room)) ⌝ }
-    ensures { λ r. ⌜ sinkOf r (now (room .exit)) ≡ emit task (now (words .entry)) (now (store .entry)) (sinkOf tally (now (room .entry))) (key .constraint) (idsOf key) (now (list .entry)) ⌝ }
+    ensures { λ r. ⌜ sinkOf r (now (room .exit)) ≡ emit task (forwardWords (now (edges .entry))) (now (store .entry)) (sinkOf tally (now (room .entry))) (key .constraint) (idsOf key) (now (list .entry)) ⌝ }
 {
     if tally.stopped {
         return tally;
@@ -254,9 +248,9 @@ pub fn emit_one(
     }
     if task.mode == 1 {
         let next = one_more(tally, n, false);
-        write_one(task, words, key, list, room, tally);
+        write_one(task, edges, key, list, room, tally);
         return next;
     }
-    let agreed = one_agrees(task, words, key, list, store, tally);
+    let agreed = one_agrees(task, edges, key, list, store, tally);
     one_more(tally, n, !agreed)
 }

@@ -2,12 +2,16 @@
 mod adjacency;
 mod count;
 mod emit;
+mod joined;
+mod near;
 mod pass;
 mod walk;
 mod write;
 
 use count::count;
+use count::record_number;
 use emit::bytes_same;
+use joined::own_joined;
 use pass::pass;
 use rules::Built;
 use write::groups_at;
@@ -15,14 +19,15 @@ use write::put_bytes;
 use write::put_header;
 use write::write_index;
 ghost use mathlib.Core.Path.{_≡_};
+ghost use mathlib.Core.Bool.{true};
 ghost use Prim.Native.Nat.{_+_, _*_, _≤_};
 ghost use lib.ListN.{length, take};
 ghost use Rattle.rules.specs.Words.{over};
-ghost use Rattle.rules.specs.Store.{nodeCount, edgeCount, constraintCount, groupsAt, header};
+ghost use Rattle.rules.specs.Store.{nodeCount, edgeCount, constraintCount, groupsAt, header, draftRight};
 ghost use Rattle.rules.specs.Index.{storeIndex, entryTotal, storeOf};
 ghost use Rattle.rules.specs.Answers.{same, buildOutcome, admitNumber};
 ghost use Rattle.laws.specs.Header.{Limits};
-ghost use Rattle.build.specs.Pass.{Right, Fitting, indexSame};
+ghost use Rattle.build.specs.Pass.{AtHand, Fitting, indexSame};
 ghost use Rattle.build.specs.Outcome.{gave};
 
 // What a walk over the keys of a constraint is for: mode 0 counts, 1 writes, any other compares; lists longer than `above`, and how many at most.
@@ -50,26 +55,21 @@ pub struct Labels {
 }
 
 // Writes the store of a draft.
-fn write_store(draft: &[u8], groups: u32, entries: u32, room: &mut [u8])
-    requires { ⌜ Fitting (now draft) groups entries (length (now room)) ⌝ }
+fn write_store(draft: &[u8], joined: &[u32], groups: u32, entries: u32, room: &mut [u8])
+    requires { ⌜ Fitting (now draft) groups entries (length (now room)) × AtHand (now draft) (now joined) ⌝ }
     ensures { λ _. ⌜ now (room .exit) ≡ over (now (room .entry)) 0 (storeOf (now (draft .entry))) ⌝ }
 {
     put_header(draft, groups, entries, room);
     put_bytes(room, 48, &draft[48..]);
-    write_index(draft, groups, entries, room);
+    write_index(draft, joined, groups, entries, room);
 }
 
-// Builds the store of a draft: the number, and the length of the store that was written over the front of the room.
-pub fn build(draft: &[u8], room: &mut [u8]) -> Built
+// Builds the store of a draft without refusal 1, 2 or 3, whose edges both ways round are at hand.
+fn build_with(draft: &[u8], joined: &[u32], room: &mut [u8]) -> Built
+    requires { ⌜ (draftRight (now draft) ≡ true) × AtHand (now draft) (now joined) ⌝ }
     ensures { λ r. ⌜ gave (r .number) (r .length) (now (room .exit)) ≡ buildOutcome (now (draft .entry)) (now (room .entry)) ⌝ }
 {
-    if !store::draft_right(draft) {
-        return Built {
-            number: 1,
-            length: 0,
-        };
-    }
-    let c = count(draft);
+    let c = count(draft, joined);
     if c.number != 0 {
         return Built {
             number: c.number,
@@ -83,11 +83,33 @@ pub fn build(draft: &[u8], room: &mut [u8]) -> Built
             length: 0,
         };
     }
-    write_store(draft, c.groups, c.entries, room);
+    write_store(draft, joined, c.groups, c.entries, room);
     Built {
         number: 0,
         length: total as u32,
     }
+}
+
+// Builds the store of a draft: the number, and the length of the store that was written over the front of the room.
+pub fn build(draft: &[u8], room: &mut [u8]) -> Built
+    ensures { λ r. ⌜ gave (r .number) (r .length) (now (room .exit)) ≡ buildOutcome (now (draft .entry)) (now (room .entry)) ⌝ }
+{
+    if !store::draft_right(draft) {
+        return Built {
+            number: 1,
+            length: 0,
+        };
+    }
+    let early = record_number(draft);
+    if early != 0 {
+        return Built {
+            number: early,
+            length: 0,
+        };
+    }
+    let mut joined = [0u32; 524288];
+    let n = own_joined(draft, &mut joined);
+    build_with(draft, &joined[..n], room)
 }
 
 // Whether the header of a store with these counts is the one that s has.
@@ -101,8 +123,8 @@ fn header_same(s: &[u8], groups: u32, entries: u32) -> bool
 }
 
 // Whether the groups and entries of s are those of its index, of which there are so many.
-fn index_same(s: &[u8], groups: u32, entries: u32) -> bool
-    requires { ⌜ Right (now s) × ((groups ≡ length (storeIndex (now s))) × ((entries ≡ entryTotal (storeIndex (now s))) × (groupsAt (now s) + groups * 24 + entries * 8 ≤ length (now s)))) ⌝ }
+fn index_same(s: &[u8], joined: &[u32], groups: u32, entries: u32) -> bool
+    requires { ⌜ AtHand (now s) (now joined) × ((groups ≡ length (storeIndex (now s))) × ((entries ≡ entryTotal (storeIndex (now s))) × (groupsAt (now s) + groups * 24 + entries * 8 ≤ length (now s)))) ⌝ }
     ensures { λ r. ⌜ r ≡ indexSame (now (s .entry)) groups entries ⌝ }
 {
     let table = groups_at(s);
@@ -115,18 +137,16 @@ fn index_same(s: &[u8], groups: u32, entries: u32) -> bool
         lists: table + groups as usize * 24,
     };
     let mut none = [0u8; 1];
-    let t = pass(task, s, s, &mut none);
+    let t = pass(task, s, joined, s, &mut none);
     !t.stopped
 }
 
-// Admits a store: 0, or the number of the first refusal.
-pub fn admit(s: &[u8]) -> u32
+// Admits a store without refusal 1, 2 or 3, whose edges both ways round are at hand.
+fn admit_with(s: &[u8], joined: &[u32]) -> u32
+    requires { ⌜ AtHand (now s) (now joined) ⌝ }
     ensures { λ r. ⌜ r ≡ admitNumber (now (s .entry)) ⌝ }
 {
-    if !store::header_right(s) {
-        return 1;
-    }
-    let c = count(s);
+    let c = count(s, joined);
     if c.number == 11 {
         return 5;
     }
@@ -136,8 +156,24 @@ pub fn admit(s: &[u8]) -> u32
     if !header_same(s, c.groups, c.entries) {
         return 5;
     }
-    if !index_same(s, c.groups, c.entries) {
+    if !index_same(s, joined, c.groups, c.entries) {
         return 5;
     }
     0
+}
+
+// Admits a store: 0, or the number of the first refusal.
+pub fn admit(s: &[u8]) -> u32
+    ensures { λ r. ⌜ r ≡ admitNumber (now (s .entry)) ⌝ }
+{
+    if !store::header_right(s) {
+        return 1;
+    }
+    let early = record_number(s);
+    if early != 0 {
+        return early;
+    }
+    let mut joined = [0u32; 524288];
+    let n = own_joined(s, &mut joined);
+    admit_with(s, &joined[..n])
 }

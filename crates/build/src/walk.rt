@@ -2,12 +2,13 @@
 use crate::Labels;
 use crate::Tally;
 use crate::Task;
-use crate::adjacency::has_label;
-use crate::adjacency::shared;
 use crate::emit::emit_one;
+use crate::near::shared;
+use crate::near::tried;
 use rules::Key;
 ghost use mathlib.Core.Path.{_≡_};
 ghost use Prim.Native.Nat.{_+_, _<_};
+ghost use Rattle.build.specs.Packed.{forwardWords};
 ghost use Rattle.build.specs.Walk.{withId, restOf, Fit, Done};
 
 // The key with u as its id number at.
@@ -54,7 +55,7 @@ pub fn walk(
     task: Task,
     nodes: &[u8],
     joined: &[u32],
-    words: &[u32],
+    edges: &[u8],
     left: Labels,
     key: Key,
     at: u32,
@@ -62,49 +63,54 @@ pub fn walk(
     one: &mut [u32],
     two: &mut [u32],
     three: &mut [u32],
+    first: &mut [u32],
+    second: &mut [u32],
+    third: &mut [u32],
     store: &[u8],
     room: &mut [u8],
     tally: Tally,
 ) -> Tally
-    requires { ⌜ Fit task (now nodes) left key at (now list) (now one) (now two) (now three) (now store) (now room) ⌝ }
-    ensures { λ r. ⌜ Done task (now (nodes .entry)) (now (joined .entry)) (now (words .entry)) left key at (now (list .entry)) (now (store .entry)) tally (now (room .entry)) r (now (room .exit)) ⌝ }
+    requires { ⌜ Fit task (now nodes) (now joined) left key at (now list) (now one) (now two) (now three) (now first) (now second) (now third) (now store) (now room) ⌝ }
+    ensures { λ r. ⌜ Done task (now (nodes .entry)) (now (joined .entry)) (forwardWords (now (edges .entry))) left key at (now (list .entry)) (now (store .entry)) tally (now (room .entry)) r (now (room .exit)) ⌝ }
 {
     if list.len() <= task.above as usize {
         return tally;
     }
     if left.first == 0 {
-        return emit_one(task, words, key, list, store, room, tally);
+        return emit_one(task, edges, key, list, store, room, tally);
     }
-    let n = nodes.len() / 8;
+    let n = tried(nodes, joined, list, left.first, first, one);
     let mut none = [0u32; 1];
+    let mut empty = [0u32; 1];
     let mut t = tally;
-    let mut u = 0;
-    while u < n {
+    let mut i = 0;
+    while i < n {
         if t.stopped {
             return t;
         }
-        let x = u;
-        u += 1;
-        if has_label(nodes, left.first, x) {
-            let k = shared(joined, list, x as u32, one);
-            let next = with_id(key, at, x as u32);
-            t = walk(
-                task,
-                nodes,
-                joined,
-                words,
-                rest_of(left),
-                next,
-                at + 1,
-                &one[..k],
-                two,
-                three,
-                &mut none,
-                store,
-                room,
-                t,
-            );
-        }
+        let u = first[i];
+        i += 1;
+        let k = shared(joined, list, u, one);
+        let next = with_id(key, at, u);
+        t = walk(
+            task,
+            nodes,
+            joined,
+            edges,
+            rest_of(left),
+            next,
+            at + 1,
+            &one[..k],
+            two,
+            three,
+            &mut none,
+            second,
+            third,
+            &mut empty,
+            store,
+            room,
+            t,
+        );
     }
     t
 }

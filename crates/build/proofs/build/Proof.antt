@@ -2,80 +2,47 @@
 use borrow.Author.Needs.{needs}
 use native.Mathlib.Omega.{arith}
 use mathlib.Core.Path.{sym, _∙_}
+use lib.ListN.{length-take}
 use borrow.Author.Tests.{not-false}
 use Rattle.laws.specs.Header.{draft-header}
-use Rattle.build.proofs.Built.{gives-one, gives-graph, gives-ten, gives-store}
-use Rattle.build.proofs.Fitted.{fitting, whole-length, small}
+use Rattle.build.proofs.Passing.{new-fits}
+use Rattle.build.proofs.Index.{right-sound}
+use Rattle.build.proofs.Numbers.{early-number, early-right}
+use Rattle.build.proofs.Built.{gives-one, gives-graph}
 use Rattle.build.proofs.build.Statement.{statement}
 use Rattle.build.proofs.build.Tie as tie
-
-draft-right-requires : tie.Need-draft-right-requires
-draft-right-requires c κs = search needs
 
 returns : tie.Need-returns
 returns c = gives-one _ _ _ (c .before .draft-right .ensures) (c .if1 .taken)
 
-count-requires : tie.Need-count-requires
-count-requires c κs = draft-header _ (sym (c .before .draft-right .ensures) ∙ not-false _ (c .if1 .left))
+record-number-requires : tie.Need-record-number-requires
+record-number-requires c κs = draft-header _ (sym (c .before .draft-right .ensures) ∙ not-false _ (c .if1 .left))
 
 returns-2 : tie.Need-returns-2
-returns-2 c = gives-graph _ _ _ (c .before .before .before .before .draft-right .ensures) (c .before .before .before .if1 .left) _ (c .before .before .count .ensures .0) (c .if2 .taken)
+returns-2 c =
+    let right = sym (c .before .before .before .draft-right .ensures) ∙ not-false _ (c .before .before .if1 .left) in
+    gives-graph _ _ right _ (early-number _ _ (c .before .record-number .ensures) (c .if2 .taken) .0) (c .if2 .taken)
 
-cast-total : tie.Need-cast-total
-cast-total c = search needs
+own-joined-requires : tie.Need-own-joined-requires
+own-joined-requires c κs =
+    let right = sym (c .before .before .before .before .draft-right .ensures) ∙ not-false _ (c .before .before .before .if1 .left) in
+    (right-sound (early-right _ _ (c .before .before .record-number .ensures) (draft-header _ right) (c .before .if2 .left)), new-fits 524288 0)
 
-mul-total : tie.Need-mul-total
-mul-total c = search needs
+slice-aggregate-build-with : tie.Need-slice-aggregate-build-with
+slice-aggregate-build-with c =
+    let k = c .before .before .own-joined .ensures .0 in
+    simp length-take (omega arith)
 
-add-total : tie.Need-add-total
-add-total c = search needs
-
-cast-total-2 : tie.Need-cast-total-2
-cast-total-2 c = search needs
-
-mul-total-2 : tie.Need-mul-total-2
-mul-total-2 c = search needs
-
-add-total-2 : tie.Need-add-total-2
-add-total-2 c = search needs
+build-with-requires : tie.Need-build-with-requires
+build-with-requires c κs =
+    let right = sym (c .before .before .before .before .before .before .before .before .draft-right .ensures) ∙ not-false _ (c .before .before .before .before .before .before .before .if1 .left) in
+    (right, record { right = early-right _ _ (c .before .before .before .before .before .before .record-number .ensures) (draft-header _ right) (c .before .before .before .before .before .if2 .left); words = c .before .before .before .own-joined .ensures .1 })
 
 returns-3 : tie.Need-returns-3
-returns-3 c =
-    let long = whole-length _ _ (c .before .before .before .before .before .before .before .draft-right .ensures) (c .before .before .before .before .before .before .if1 .left) _ _ _ (c .before .before .before .before .before .count .ensures .0) (c .before .before .before .if2 .left) (c .before .before .before .before .before .count .ensures .1) in
-    gives-ten _ _ _ (c .before .before .before .before .before .before .before .draft-right .ensures) (c .before .before .before .before .before .before .if1 .left) _ (c .before .before .before .before .before .count .ensures .0) (c .before .before .before .if2 .left) _ long (c .if3 .taken)
-
-write-store-requires : tie.Need-write-store-requires
-write-store-requires c κs = fitting _ _ (c .before .before .before .before .before .before .before .before .draft-right .ensures) (c .before .before .before .before .before .before .before .if1 .left) _ _ _ (c .before .before .before .before .before .before .count .ensures .0) (c .before .before .before .before .if2 .left) (c .before .before .before .before .before .before .count .ensures .1) _ (c .before .if3 .left)
-
-cast-t16 : tie.Need-cast-t16
-cast-t16 c =
-    let h = small _ _ (c .before .before .before .before .before .before .before .before .before .before .before .draft-right .ensures) (c .before .before .before .before .before .before .before .before .before .before .if1 .left) _ _ _ (c .before .before .before .before .before .before .before .before .before .count .ensures .0) (c .before .before .before .before .before .before .before .if2 .left) (c .before .before .before .before .before .before .before .before .before .count .ensures .1) in
-    omega arith
-
-same-length : tie.Need-same-length
-same-length c = search needs
-
-returns-4 : tie.Need-returns-4
-returns-4 c =
-    let long = whole-length _ _ (c .before .before .before .before .before .before .before .before .before .before .before .draft-right .ensures) (c .before .before .before .before .before .before .before .before .before .before .if1 .left) _ _ _ (c .before .before .before .before .before .before .before .before .before .count .ensures .0) (c .before .before .before .before .before .before .before .if2 .left) (c .before .before .before .before .before .before .before .before .before .count .ensures .1) in
-    gives-store _ _ _ (c .before .before .before .before .before .before .before .before .before .before .before .draft-right .ensures) (c .before .before .before .before .before .before .before .before .before .before .if1 .left) _ (c .before .before .before .before .before .before .before .before .before .count .ensures .0) (c .before .before .before .before .before .before .before .if2 .left) _ long (c .before .before .before .before .if3 .left) (c .before .before .write-store .ensures)
+returns-3 c = c .before .before .build-with .ensures
 
 pub build-spec : {M : Type 1} → statement M
 build-spec =
     tie.close
-    (tie.spec
-    draft-right-requires
-    returns
-    count-requires
-    returns-2
-    cast-total
-    mul-total
-    add-total
-    cast-total-2
-    mul-total-2
-    add-total-2
-    returns-3
-    write-store-requires
-    cast-t16
-    same-length
-    returns-4)
+    (tie.spec (λ c κs. search needs) returns record-number-requires returns-2 (λ c. search needs) own-joined-requires (λ c. search needs) slice-aggregate-build-with
+    build-with-requires (λ c. search needs) returns-3)

@@ -10,7 +10,7 @@ use Rattle.build.proofs.write_store.Tie as tie
 
 put-header-requires : tie.Need-put-header-requires
 put-header-requires c κs =
-    let f = c .before .before .before .pre in
+    let f = c .before .before .before .before .pre .0 in
     let h = draft-header _ (f .header) in
     let long = header-long _ h in
     let fits = f .fits in
@@ -18,7 +18,7 @@ put-header-requires c κs =
 
 sub-put-bytes : tie.Need-sub-put-bytes
 sub-put-bytes c =
-    let f = c .before .before .before .before .before .before .before .pre in
+    let f = c .before .before .before .before .before .before .before .before .pre .0 in
     let h = draft-header _ (f .header) in
     let long = header-long _ h in
     let fits = f .fits in
@@ -26,7 +26,7 @@ sub-put-bytes c =
 
 part-put-bytes-start : tie.Need-part-put-bytes-start
 part-put-bytes-start c =
-    let f = c .before .before .before .before .before .before .before .pre in
+    let f = c .before .before .before .before .before .before .before .before .pre .0 in
     let h = draft-header _ (f .header) in
     let long = header-long _ h in
     let fits = f .fits in
@@ -37,7 +37,7 @@ part-put-bytes-end c = search needs
 
 put-bytes-requires : tie.Need-put-bytes-requires
 put-bytes-requires c κs =
-    let f = c .before .before .before .before .before .before .before .before .pre in
+    let f = c .before .before .before .before .before .before .before .before .before .pre .0 in
     let h = draft-header _ (f .header) in
     let long = header-long _ h in
     let fits = f .fits in
@@ -46,7 +46,8 @@ put-bytes-requires c κs =
 
 write-index-requires : tie.Need-write-index-requires
 write-index-requires c κs =
-    let f = c .before .before .before .before .before .before .before .before .before .before .before .before .pre in
+    let s = c .before .before .before .before .before .before .before .before .before .before .before .before .before in
+    let f = s .pre .0 in
     let h = draft-header _ (f .header) in
     let long = header-long _ h in
     let fits = f .fits in
@@ -54,14 +55,14 @@ write-index-requires c κs =
     let ends = draft-ends _ _ _ (f .header) (f .groups) (f .entries) (l .0) (l .1) in
     let kept = c .before .before .before .before .before .before .before .before .put-header .kept .1 .1 .1 .0 in
     let again = c .before .before .before .put-bytes .kept .0 in
-    (f .right, (f .groups, (f .entries, omega arith)))
+    (s .pre .1, (f .groups, (f .entries, omega arith)))
 
 same-length : tie.Need-same-length
 same-length c = search needs
 
 returns : tie.Need-returns
 returns c =
-    let f = c .before .before .before .before .before .before .before .before .before .before .before .before .before .before .before .pre in
+    let f = c .before .before .before .before .before .before .before .before .before .before .before .before .before .before .before .before .pre .0 in
     let h = draft-header _ (f .header) in
     let long = header-long _ h in
     let fits = f .fits in
@@ -71,12 +72,4 @@ returns c =
 pub write-store-spec : {M : Type 1} → statement M
 write-store-spec =
     tie.close
-    (tie.spec
-    put-header-requires
-    sub-put-bytes
-    part-put-bytes-start
-    part-put-bytes-end
-    put-bytes-requires
-    write-index-requires
-    same-length
-    returns)
+    (tie.spec put-header-requires sub-put-bytes part-put-bytes-start part-put-bytes-end put-bytes-requires write-index-requires same-length returns)

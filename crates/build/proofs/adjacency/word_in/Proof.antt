@@ -1,28 +1,10 @@
 -- `build::adjacency::word_in` meets its contract. Assumes nothing.
-use mathlib.Core.Path.{_≡_, _∙_}
-use mathlib.Core.Bool.{false}
-use Prim.Native.Nat.{ℕ, _+_, _*_, _≤_, _<_}
-use mathlib.Core.List.{List}
+use mathlib.Core.Path.{_∙_}
 use native.Mathlib.Omega.{arith}
 use borrow.Author.Needs.{needs}
-use borrow.Author.Tests.{le-ltb, lt-ltb}
-use Rattle.laws.specs.Searching.{standsIn}
-use Rattle.build.specs.Packed.{wordIn}
+use Rattle.build.proofs.Edges.{high-key, high-entry, both-low}
 use Rattle.build.proofs.adjacency.word_in.Statement.{statement}
 use Rattle.build.proofs.adjacency.word_in.Tie as tie
-
-module _ (ws : List ℕ) (u v : ℕ) where
-  high-key : 65536 ≤ u → false ≡ wordIn ws u v
-  unfolding wordIn
-  high-key h = rw (le-ltb u 65536 h)
-
-  high-entry : u < 65536 → 65536 ≤ v → false ≡ wordIn ws u v
-  unfolding wordIn
-  high-entry k h = rw (lt-ltb u 65536 k, le-ltb v 65536 h)
-
-  both-low : u < 65536 → v < 65536 → standsIn (u * 65536 + v) ws ≡ wordIn ws u v
-  unfolding wordIn
-  both-low h k = rw (lt-ltb u 65536 h, lt-ltb v 65536 k)
 
 returns : tie.Need-returns
 returns c = high-key _ _ _ (c .if1 .taken)

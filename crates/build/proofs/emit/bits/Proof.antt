@@ -28,16 +28,16 @@ module _ (ws : List ℕ) (u v : ℕ) (a b : Bool) (p : a ≡ wordIn ws u v) (q :
   none h k = (told ws u v false false (sym h ∙ p) (sym k ∙ q), omega arith)
 
 returns : tie.Need-returns
-returns c = let w = c .before .before .before in three _ _ _ _ _ (w .word-in .ensures) (c .before .word-in2 .ensures) (c .before .before .if1 .taken) (c .if2 .taken)
+returns c = let w = c .before .before .before in three _ _ _ _ _ (w .edge-in .ensures) (c .before .edge-in2 .ensures) (c .before .before .if1 .taken) (c .if2 .taken)
 
 returns-2 : tie.Need-returns-2
-returns-2 c = let w = c .before .before .before in one _ _ _ _ _ (w .word-in .ensures) (c .before .word-in2 .ensures) (c .before .before .if1 .taken) (c .if2 .left)
+returns-2 c = let w = c .before .before .before in one _ _ _ _ _ (w .edge-in .ensures) (c .before .edge-in2 .ensures) (c .before .before .if1 .taken) (c .if2 .left)
 
 returns-3 : tie.Need-returns-3
-returns-3 c = let w = c .before .before .before in two _ _ _ _ _ (w .word-in .ensures) (c .before .word-in3 .ensures) (c .before .before .if1 .left) (c .if3 .taken)
+returns-3 c = let w = c .before .before .before in two _ _ _ _ _ (w .edge-in .ensures) (c .before .edge-in3 .ensures) (c .before .before .if1 .left) (c .if3 .taken)
 
 returns-4 : tie.Need-returns-4
-returns-4 c = let w = c .before .before .before in none _ _ _ _ _ (w .word-in .ensures) (c .before .word-in3 .ensures) (c .before .before .if1 .left) (c .if3 .left)
+returns-4 c = let w = c .before .before .before in none _ _ _ _ _ (w .edge-in .ensures) (c .before .edge-in3 .ensures) (c .before .before .if1 .left) (c .if3 .left)
 
 pub bits-spec : {M : Type 1} → statement M
 bits-spec =

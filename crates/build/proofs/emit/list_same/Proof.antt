@@ -7,6 +7,7 @@ use borrow.Author.Tests.{not-true, not-false}
 use Rattle.rules.specs.Words.{part}
 use Rattle.rules.specs.Answers.{same}
 use Rattle.laws.specs.Slices.{drop-next}
+use Rattle.build.specs.Packed.{forwardWords}
 use Rattle.build.specs.Emit.{idsOf, listRecords}
 use Rattle.build.proofs.Comparing.{Entries, entry-next, entry-stop, entries-done}
 use borrow.Author.Needs.{needs}
@@ -14,12 +15,12 @@ use Rattle.build.proofs.emit.list_same.Statement.{statement}
 use Rattle.build.proofs.emit.list_same.Tie as tie
 
 abbrev Inv-loop : tie.InvT-loop
-Inv-loop words key list store at i₀ next₀ i next =
+Inv-loop edges key list store at i₀ next₀ i next =
     ((i ≤ length list) × (next + (length list - i) * 8 ≤ length store))
-    × Entries words (idsOf key) store (same (part store at (at + length list * 8)) (listRecords words (idsOf key) list)) next (drop i list)
+    × Entries (forwardWords edges) (idsOf key) store (same (part store at (at + length list * 8)) (listRecords (forwardWords edges) (idsOf key) list)) next (drop i list)
 
 abbrev μ-loop : tie.MeasureT-loop
-μ-loop words key list store at i₀ next₀ i next = length list - i
+μ-loop edges key list store at i₀ next₀ i next = length list - i
 
 loop-again : tie.Need-loop-again Inv-loop μ-loop
 loop-again c =

@@ -3,6 +3,7 @@ use native.Mathlib.Omega.{arith}
 use Prim.Native.Nat.{_+_, _-_, _*_, _≤_}
 use lib.ListN.{length, drop, drop-of-length-le}
 use Rattle.laws.specs.Slices.{drop-next}
+use Rattle.build.specs.Packed.{forwardWords}
 use Rattle.build.specs.Emit.{idsOf}
 use Rattle.build.proofs.Records.{Writing, begun, wrote, ended}
 use borrow.Author.Needs.{needs}
@@ -10,11 +11,11 @@ use Rattle.build.proofs.emit.put_list.Statement.{statement}
 use Rattle.build.proofs.emit.put_list.Tie as tie
 
 abbrev Inv-loop : tie.InvT-loop
-Inv-loop words key list room₀ at i₀ next₀ room i next =
-    ((i ≤ length list) × (next + (length list - i) * 8 ≤ length room)) × Writing words (idsOf key) room₀ at list room next (drop i list)
+Inv-loop edges key list room₀ at i₀ next₀ room i next =
+    ((i ≤ length list) × (next + (length list - i) * 8 ≤ length room)) × Writing (forwardWords edges) (idsOf key) room₀ at list room next (drop i list)
 
 abbrev μ-loop : tie.MeasureT-loop
-μ-loop words key list room₀ at i₀ next₀ room i next = length list - i
+μ-loop edges key list room₀ at i₀ next₀ room i next = length list - i
 
 loop-again : tie.Need-loop-again Inv-loop μ-loop
 loop-again c =

@@ -4,46 +4,21 @@ use Rattle.build.proofs.Passing.{new-fits, ready-own, own-done}
 use Rattle.build.proofs.pass.pass_over.Statement.{statement}
 use Rattle.build.proofs.pass.pass_over.Tie as tie
 
-node-part-requires : tie.Need-node-part-requires
-node-part-requires c κs = search needs
-
-constraint-part-requires : tie.Need-constraint-part-requires
-constraint-part-requires c κs = search needs
-
-slice-aggregate-visit-all : tie.Need-slice-aggregate-visit-all
-slice-aggregate-visit-all c = search needs
-
-slice-aggregate-visit-all-2 : tie.Need-slice-aggregate-visit-all-2
-slice-aggregate-visit-all-2 c = search needs
-
-slice-aggregate-visit-all-3 : tie.Need-slice-aggregate-visit-all-3
-slice-aggregate-visit-all-3 c = search needs
-
-slice-aggregate-visit-all-4 : tie.Need-slice-aggregate-visit-all-4
-slice-aggregate-visit-all-4 c = search needs
-
 visit-all-requires : tie.Need-visit-all-requires
 visit-all-requires c κs =
-    let s = c .before .before .before .before .before .before .before .before .before .before .before .before in
-    ready-own _ _ _ _ _ _ _ _ _ _ (c .before .before .before .before .before .before .node-part .ensures) (c .before .before .before .before .before .constraint-part .ensures) (s .pre .0) (s .pre .1) (new-fits 65536 0) (new-fits 65536 0) (new-fits 65536 0) (new-fits 65536 0)
-
-same-length : tie.Need-same-length
-same-length c = search needs
+    let parts = c .before .before .before .before .before .before .before .before in
+    let s = parts .before .before .before .before .before .before .before in
+    ready-own _ _ _ _ _ _ _ _ _ _ _ _ _ _ (parts .before .before .node-part .ensures) (parts .constraint-part .ensures) (s .pre .0 .0) (s .pre .0 .1) (s .pre .1) (new-fits 65536 0)
+    (new-fits 65536 0, new-fits 65536 0) (new-fits 65536 0, new-fits 65536 0) (new-fits 65536 0, new-fits 65536 0)
 
 returns : tie.Need-returns
 returns c =
-    own-done _ _ _ _ _ _ _ _ _ (c .before .before .before .before .before .before .before .before .before .before .before .before .before .node-part .ensures) (c .before .before .before .before .before .before .before .before .before .before .before .before .constraint-part .ensures) (c .before .before .before .before .before .before .visit-all .ensures)
+    let done = c .before .before .before .before .before .before .before .before .before in
+    let parts = done .before .before .before .before .before .before .before .before .before in
+    own-done _ _ _ _ _ _ _ _ _ (parts .before .before .node-part .ensures) (parts .before .edge-part .ensures) (parts .constraint-part .ensures) (done .visit-all .ensures)
 
 pub pass-over-spec : {M : Type 1} → statement M
 pass-over-spec =
     tie.close
-    (tie.spec
-    node-part-requires
-    constraint-part-requires
-    slice-aggregate-visit-all
-    slice-aggregate-visit-all-2
-    slice-aggregate-visit-all-3
-    slice-aggregate-visit-all-4
-    visit-all-requires
-    same-length
-    returns)
+    (tie.spec (λ c κs. search needs) (λ c κs. search needs) (λ c κs. search needs) (λ c. search needs) (λ c. search needs) (λ c. search needs) (λ c. search needs)
+    (λ c. search needs) (λ c. search needs) (λ c. search needs) visit-all-requires (λ c. search needs) returns)

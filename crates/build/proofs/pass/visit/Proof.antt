@@ -16,15 +16,15 @@ task-for-requires c κs = search needs
 labelled-requires : tie.Need-labelled-requires
 labelled-requires c κs = search needs
 
-cast-t21 : tie.Need-cast-t21
-cast-t21 c = search needs
+cast-t24 : tie.Need-cast-t24
+cast-t24 c = search needs
 
 slice-reshare-prefix-walk : tie.Need-slice-reshare-prefix-walk
 slice-reshare-prefix-walk c = search needs
 
 slice-aggregate-walk : tie.Need-slice-aggregate-walk
 slice-aggregate-walk c =
-    let s = c .before .before .before .before .before .before .before .before .before .before .before .before .before .before .before .before .before in
+    let s = c .before .before .before .before .before .before .before .before .before .before .before .before .before .before .before .before .before .before .before .before in
     let few = s .pre .1 .few in
     let long = s .pre .1 .zero in
     let k = c .before .before .before .labelled .ensures .0 in
@@ -33,8 +33,8 @@ slice-aggregate-walk c =
 
 walk-requires : tie.Need-walk-requires
 walk-requires c κs =
-    let s = c .before .before .before .before .before .before .before .before .before .before .before .before .before .before .before .before .before .before .before .before .before in
-    fit-start (s .pre .1) _ _ (c .before .before .before .before .before .before .before .before .before .task-for .ensures) (c .before .before .before .before .before .before .before .labelled .ensures .1) refl refl refl refl
+    let s = c .before .before .before .before .before .before .before .before .before .before .before .before .before .before .before .before .before .before .before .before .before .before .before .before .before .before .before in
+    fit-start (s .pre .1) _ _ (c .before .before .before .before .before .before .before .before .before .before .before .before .task-for .ensures) (c .before .before .before .before .before .before .before .before .before .before .labelled .ensures .1) (refl, refl) (refl, refl) (refl, refl) refl
 
 same-length : tie.Need-same-length
 same-length c = search needs
@@ -51,9 +51,18 @@ same-length-4 c = search needs
 same-length-5 : tie.Need-same-length-5
 same-length-5 c = search needs
 
+same-length-6 : tie.Need-same-length-6
+same-length-6 c = search needs
+
+same-length-7 : tie.Need-same-length-7
+same-length-7 c = search needs
+
+same-length-8 : tie.Need-same-length-8
+same-length-8 c = search needs
+
 returns : tie.Need-returns
 returns c =
-    visit-done _ _ _ _ _ _ _ _ _ _ _ (c .before .before .before .before .before .before .before .before .before .before .before .before .before .before .before .before .before .before .before .constraint-at .ensures) (c .before .before .before .before .before .before .before .before .before .before .before .before .before .before .before .before .before .before .task-for .ensures) (c .before .before .before .before .before .before .before .before .before .before .before .before .before .before .before .before .labelled .ensures .1) (c .before .before .before .before .before .before .before .before .walk .ensures)
+    visit-done _ _ _ _ _ _ _ _ _ _ _ (c .before .before .before .before .before .before .before .before .before .before .before .before .before .before .before .before .before .before .before .before .before .before .before .before .before .before .before .before .constraint-at .ensures) (c .before .before .before .before .before .before .before .before .before .before .before .before .before .before .before .before .before .before .before .before .before .before .before .before .before .before .before .task-for .ensures) (c .before .before .before .before .before .before .before .before .before .before .before .before .before .before .before .before .before .before .before .before .before .before .before .before .before .labelled .ensures .1) (c .before .before .before .before .before .before .before .before .before .before .before .before .before .before .walk .ensures)
 
 pub visit-spec : {M : Type 1} → statement M
 visit-spec =
@@ -62,7 +71,7 @@ visit-spec =
     constraint-at-requires
     task-for-requires
     labelled-requires
-    cast-t21
+    cast-t24
     slice-reshare-prefix-walk
     slice-aggregate-walk
     walk-requires
@@ -71,4 +80,7 @@ visit-spec =
     same-length-3
     same-length-4
     same-length-5
+    same-length-6
+    same-length-7
+    same-length-8
     returns)

@@ -1,4 +1,4 @@
--- `build::adjacency::shared` meets its contract. Kept.antt has the loop's state and its laws. Assumes nothing.
+-- `build::adjacency::shared_listed` meets its contract. Kept.antt has the loop's state and its laws. Assumes nothing.
 use borrow.Author.Needs.{needs}
 use native.Mathlib.Omega.{arith}
 use mathlib.Core.Path.{_≡_, refl, sym, _∙_}
@@ -8,8 +8,8 @@ use Rattle.rules.specs.Lists.{keep}
 use Rattle.laws.specs.Slices.{drop-next}
 use Rattle.build.specs.Packed.{wordIn}
 use Rattle.build.proofs.Kept.{Kept, begun, taken, skipped, ended}
-use Rattle.build.proofs.adjacency.shared.Statement.{statement}
-use Rattle.build.proofs.adjacency.shared.Tie as tie
+use Rattle.build.proofs.adjacency.shared_listed.Statement.{statement}
+use Rattle.build.proofs.adjacency.shared_listed.Tie as tie
 
 abbrev Inv-loop : tie.InvT-loop
 Inv-loop joined list u out₀ k₀ i₀ out k i =
@@ -33,8 +33,8 @@ loop-again-2 c =
 returns : tie.Need-returns Inv-loop μ-loop
 returns c = ended (rw (drop-of-length-le _ {i = c .before .loop .i} (c .loop-test .left)) at (c .before .loop .inv .2))
 
-pub shared-spec : {M : Type 1} → statement M
-shared-spec =
+pub shared-listed-spec : {M : Type 1} → statement M
+shared-listed-spec =
     tie.close
     (tie.spec Inv-loop μ-loop (λ c. ((omega arith, omega arith), refl, begun _ _ _ _ (omega arith) (c .before .before .before .pre))) (λ c. search needs) (λ c. search needs)
     (λ c. search needs) (λ c κs. search needs) (λ c. search needs) (λ c. search needs) (λ c. search needs) (λ c. search needs) loop-again (λ c. search needs)
