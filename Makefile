@@ -1,8 +1,8 @@
 # make run: what there is to see today. make test: everything that must hold; its last line is rt ci's own.
 .PHONY: run test lib serve boundary bench
 
-# the calls of crate bahrufaz that the comparison makes, of: build admit plan list; none is wired in yet
-CALLS = plan list
+# the calls of crate bahrufaz that the comparison makes
+CALLS = build admit plan list
 
 SERVE = target/boundary/serve
 SERVED = BAHRUFAZ_SERVE="$(CURDIR)/$(SERVE)" BAHRUFAZ_CALLS="$(CALLS)"

@@ -10,16 +10,6 @@ use second_reading::worlds::{self, store_of, Case, PANEL_SIZES};
 /// How many cases are at the program at one time.
 const BATCH: usize = 256;
 
-/// Whether an emulator runs the library, which is for x86-64.
-const EMULATED: bool = !cfg!(target_arch = "x86_64");
-
-/// How many small worlds are built. Each call fills megabytes of working words, whatever the draft:
-/// about half a second under an emulator, so there it is a sample.
-const BUILDS: u64 = if EMULATED { 200 } else { 20_000 };
-
-/// The tests whose worlds are large.
-const LARGE: [&str; 2] = ["panels", "limits"];
-
 /// Compares a call on the cases of these seeds: how often each number was given.
 fn compare(
     call: Call,
@@ -29,10 +19,6 @@ fn compare(
     make: impl Fn(u64) -> Option<Case>,
 ) -> Option<[u32; 12]> {
     if is_left_out(test) {
-        return None;
-    }
-    if EMULATED && LARGE.contains(&test) && matches!(call, Call::Build | Call::Admit) {
-        println!("{test}: NOT RUN for {}, too slow under an emulator", call.name());
         return None;
     }
     if !call.is_served() {
@@ -116,14 +102,14 @@ fn compare_all(call: Call, test: &str, cases: &[Case]) {
 #[test]
 fn building() {
     let counts =
-        compare(Call::Build, "building", 0, BUILDS, |seed| Some(worlds::small_build_case(seed)));
+        compare(Call::Build, "building", 0, 20_000, |seed| Some(worlds::small_build_case(seed)));
     assert_counts("building", counts, &[0, 1, 2, 3, 4, 10, 11]);
 }
 
 #[test]
 fn admitting() {
     let counts =
-        compare(Call::Admit, "admitting", 0, BUILDS, |seed| Some(worlds::small_store_case(seed)));
+        compare(Call::Admit, "admitting", 0, 20_000, |seed| Some(worlds::small_store_case(seed)));
     assert_counts("admitting", counts, &[0, 1, 2, 3, 4, 5]);
 }
 
