@@ -1,5 +1,5 @@
 # make run: what there is to see today. make test: everything that must hold; its last line is rt ci's own.
-.PHONY: run test lib serve boundary bench
+.PHONY: run test lib install desk here serve boundary bench
 
 # the calls of crate bahrufaz that the comparison makes
 CALLS = build admit plan list
@@ -15,16 +15,33 @@ test:
 	rt fmt --check
 	cargo test --release --offline --quiet --manifest-path tests/Cargo.toml
 	$(MAKE) --no-print-directory boundary
+	$(MAKE) --no-print-directory desk
 	rt ci
 
+# the library; include/bahrufaz.h says what it has: for x86-64 in target/staticlib, for the processor at hand in target/lib
+LIB = target/staticlib/libbahrufaz.a target/lib/libbahrufaz.a target/lib/libbahrufaz.so
+lib: $(LIB)
+
+$(LIB) &: lib/here.sh crates.txt $(shell find crates -type f ! -path '*/must-fail/*')
+	lib/here.sh
+
+# header, libraries for this processor and a pkg-config file
+VERSION = 0.1.0
+PREFIX = /usr/local
+install: lib
+	lib/install.sh $(VERSION) "$(PREFIX)" "$(DESTDIR)"
+
+# what stands before the library: the command and its text forms, the commands that the documents show, Rust, C, installing
+desk: lib
+	cd python && python3 -m unittest discover --quiet --start-directory tests --top-level-directory .
+	cargo test --offline --quiet --manifest-path rust/Cargo.toml
+	$(MAKE) --no-print-directory -C examples/c check
+	tests/desk/install.sh
+
 ifeq ($(strip $(CALLS)),)
-lib serve boundary bench:
+serve boundary bench:
 	@echo "$@: no call is wired in yet (CALLS is empty)"
 else
-# target/staticlib/libbahrufaz.a, for programs on x86-64 Linux; include/bahrufaz.h says what it has
-lib:
-	rt staticlib bahrufaz
-
 # the program that makes the library's calls for the tests: for x86-64, under an emulator elsewhere
 serve: lib
 	@mkdir -p $(dir $(SERVE))
@@ -37,12 +54,21 @@ serve: lib
 boundary: serve
 	$(SERVED) cargo test --release --offline --quiet --manifest-path tests/Cargo.toml --test boundary -- --nocapture $(TEST)
 
+# on a processor that the kit makes no archive for: the library for it against the second reading, too
+ifneq ($(shell uname -m),x86_64)
+desk: here
+here: lib
+	bench/here.sh $(SERVE)-here $(CALLS)
+	BAHRUFAZ_SERVE="$(CURDIR)/$(SERVE)-here" BAHRUFAZ_CALLS="$(CALLS)" \
+		cargo test --release --offline --quiet --manifest-path tests/Cargo.toml --test boundary
+endif
+
 # times of the library's calls and of the second reading; on a processor that the archive is not for, of the same module compiled for it
 ifeq ($(shell uname -m),x86_64)
 bench: serve
 	$(SERVED) cargo run --release --offline --quiet --manifest-path bench/Cargo.toml
 else
-bench:
+bench: lib
 	bench/here.sh $(SERVE)-here $(CALLS)
 	BAHRUFAZ_SERVE="$(CURDIR)/$(SERVE)-here" BAHRUFAZ_CALLS="$(CALLS)" cargo run --release --offline --quiet --manifest-path bench/Cargo.toml
 endif

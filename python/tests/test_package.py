@@ -1,0 +1,51 @@
+"""The package: installed by pip without the network, and one version everywhere."""
+
+import importlib.util
+import re
+import subprocess
+import sys
+import tempfile
+import unittest
+from pathlib import Path
+
+import bahrufaz
+
+from .worlds import CHECKOUT, SMALL
+
+HAS_PIP = importlib.util.find_spec("pip") is not None
+
+
+@unittest.skipUnless(HAS_PIP, "pip is not installed")
+class Installed(unittest.TestCase):
+    def test_pip_installs_it_offline_and_the_command_runs(self):
+        with tempfile.TemporaryDirectory() as directory:
+            install = "install --quiet --no-index --no-build-isolation --no-deps --no-warn-script-location".split()
+            subprocess.run(
+                [sys.executable, "-m", "pip", *install, "--target", directory, str(CHECKOUT / "python")],
+                check=True,
+                capture_output=True,
+            )
+            installed = sorted(path.name for path in (Path(directory) / "bahrufaz").glob("*.py"))
+            ours = sorted(path.name for path in (CHECKOUT / "python" / "bahrufaz").glob("*.py"))
+            self.assertEqual(installed, ours)
+            done = subprocess.run(
+                [str(Path(directory) / "bin" / "bahrufaz"), "show", str(SMALL)],
+                env={"PYTHONPATH": directory, "BAHRUFAZ_LIB": bahrufaz.library.find()},
+                capture_output=True,
+                text=True,
+                check=False,
+            )
+        self.assertEqual((done.returncode, done.stderr), (0, ""))
+        self.assertIn("432 bytes", done.stdout)
+
+
+class Versions(unittest.TestCase):
+    def test_one_version_everywhere(self):
+        for file, form in {
+            "python/pyproject.toml": r'^version = "(.*)"$',
+            "rust/Cargo.toml": r'^version = "(.*)"$',
+            "Makefile": r"^VERSION = (.*)$",
+        }.items():
+            found = re.search(form, (CHECKOUT / file).read_text(), re.MULTILINE)
+            self.assertIsNotNone(found, file)
+            self.assertEqual(found[1], bahrufaz.__version__, file)

@@ -1,0 +1,102 @@
+//! Stack for the calls: what is left of the thread's own, else a thread with enough.
+
+use std::cell::OnceCell;
+use std::thread::{scope, Builder};
+
+/// What a call's caller and the thread itself take beside the call.
+const MARGIN: usize = 64 << 10;
+
+thread_local! {
+    /// The lowest address of this thread's stack.
+    static LOWEST: OnceCell<usize> = const { OnceCell::new() };
+}
+
+/// Runs the work with so many bytes of stack.
+///
+/// # Panics
+/// Where there is too little stack left and no thread with enough can be started.
+pub fn with<R: Send>(bytes: usize, work: impl FnOnce() -> R + Send) -> R {
+    if left() >= bytes + MARGIN {
+        return work();
+    }
+    scope(|scope| {
+        let thread = Builder::new().stack_size(bytes + MARGIN).spawn_scoped(scope, work);
+        let thread = thread.unwrap_or_else(|error| panic!("no thread with {bytes} bytes: {error}"));
+        thread.join().expect("the library does not panic")
+    })
+}
+
+/// How many bytes of stack are left; 0 where that cannot be known.
+fn left() -> usize {
+    let here = 0u8;
+    let lowest = LOWEST.with(|lowest| *lowest.get_or_init(lowest_address));
+    (std::ptr::addr_of!(here) as usize).saturating_sub(lowest)
+}
+
+#[cfg(target_os = "linux")]
+fn lowest_address() -> usize {
+    use std::ffi::{c_int, c_void};
+
+    /// Room for the attributes of a thread; those of glibc and musl have at most 64 bytes.
+    #[repr(C, align(16))]
+    struct Attributes([u8; 128]);
+
+    extern "C" {
+        fn pthread_self() -> *mut c_void;
+        fn pthread_getattr_np(thread: *mut c_void, attributes: *mut Attributes) -> c_int;
+        fn pthread_attr_getstack(
+            attributes: *const Attributes,
+            lowest: *mut *mut c_void,
+            size: *mut usize,
+        ) -> c_int;
+        fn pthread_attr_destroy(attributes: *mut Attributes) -> c_int;
+    }
+
+    let mut attributes = Attributes([0; 128]);
+    let (mut lowest, mut size) = (std::ptr::null_mut(), 0);
+    // SAFETY: the attributes are made by the first call and read only if it succeeds; all pointers
+    // are to locals of this function.
+    unsafe {
+        if pthread_getattr_np(pthread_self(), &mut attributes) != 0 {
+            return usize::MAX;
+        }
+        let told = pthread_attr_getstack(&attributes, &mut lowest, &mut size);
+        pthread_attr_destroy(&mut attributes);
+        if told == 0 {
+            lowest as usize
+        } else {
+            usize::MAX
+        }
+    }
+}
+
+#[cfg(not(target_os = "linux"))]
+fn lowest_address() -> usize {
+    usize::MAX
+}
+
+#[cfg(test)]
+mod tests {
+    use super::*;
+
+    #[test]
+    fn a_deep_call_gets_a_thread_of_its_own_only_where_it_must() {
+        let own = |stack: usize, bytes: usize| {
+            let thread = Builder::new().stack_size(stack).spawn(move || {
+                let outer = std::thread::current().id();
+                with(bytes, move || std::thread::current().id() == outer)
+            });
+            thread.expect("a thread").join().expect("an answer")
+        };
+        assert!(own(16 << 20, 6 << 20));
+        assert!(!own(1 << 20, 6 << 20));
+        assert!(own(1 << 20, 64 << 10));
+    }
+
+    #[test]
+    fn what_is_left_is_about_what_the_thread_has() {
+        let thread = Builder::new().stack_size(4 << 20).spawn(left).expect("a thread");
+        let told = thread.join().expect("an answer");
+        assert!((3 << 20..=(4 << 20) + (64 << 10)).contains(&told), "{told}");
+    }
+}
