@@ -4,7 +4,7 @@
 #include <pthread.h>
 
 enum {
-    BUILD_STACK = 6 << 20,
+    BUILD_STACK = 4 << 20,
     PLAN_STACK = 64 << 10,
     MARGIN = 64 << 10 /* what the thread itself and the caller take beside the call */
 };

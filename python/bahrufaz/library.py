@@ -17,7 +17,7 @@ from .numbers import ANSWERED, Refused
 from .wrong import LibraryMissing
 
 NAME = "libbahrufaz.so"
-STACK_BYTES = 16 << 20  # building asks for 6 MiB, the others for 64 KiB; the rest is Python's own
+STACK_BYTES = 16 << 20  # building asks for 4 MiB, the others for 64 KiB; the rest is Python's own
 MAX_GROUPS = 262_144
 MAX_ENTRIES = 1_048_576
 PLAN_WORDS = 512  # always enough for the rows of a plan

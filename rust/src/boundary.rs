@@ -35,6 +35,6 @@ extern "C" {
 }
 
 /// Bytes of stack that building and admitting take at most.
-pub const BUILD_STACK: usize = 6 << 20;
+pub const BUILD_STACK: usize = 4 << 20;
 /// Bytes of stack that planning and listing take at most.
 pub const PLAN_STACK: usize = 64 << 10;
