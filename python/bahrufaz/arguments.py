@@ -106,15 +106,21 @@ def _add_show(command: argparse.ArgumentParser) -> None:
     _add_json(command)
 
 
+def _add_force(command: argparse.ArgumentParser) -> None:
+    command.add_argument("--force", action="store_true", help="write over a text that is there already")
+
+
 def _add_text(command: argparse.ArgumentParser) -> None:
     _add_store(command)
     command.add_argument("-o", "--output", metavar="FEED", help="the .feed file; else standard output")
+    _add_force(command)
 
 
 def _add_pattern_command(command: argparse.ArgumentParser) -> None:
     _add_pattern(command)
     _add_store(command, "?")
-    command.add_argument("-o", "--output", metavar="FILE", help="where to write")
+    command.add_argument("-o", "--output", metavar="FILE", help="the bytes, or the .pat file; a text else goes to standard output")
+    _add_force(command)
 
 
 def _add_draw(command: argparse.ArgumentParser) -> None:
@@ -132,6 +138,7 @@ def _add_draw(command: argparse.ArgumentParser) -> None:
 def _add_import(command: argparse.ArgumentParser) -> None:
     command.add_argument("file", metavar="FILE", help="a .graphml file; any other is read as an edge list in CSV")
     command.add_argument("-o", "--output", required=True, metavar="FEED", help="the .feed file")
+    _add_force(command)
     command.add_argument("--nodes", metavar="CSV", help="a CSV file of nodes: name, label and, if there is one, value")
     command.add_argument("--label", metavar="NAME", help="the label of nodes that have none")
     command.add_argument("--name-key", metavar="KEY", help="the column or attribute with a node's name")

@@ -20,6 +20,7 @@ from .store import Store
 from .wrong import Wrong
 
 ANSWERED, REFUSED, WRONG_USE = 0, 1, 2
+INTERRUPTED = 130
 _PICTURES = (".svg", ".png", ".pdf")
 
 
@@ -36,6 +37,8 @@ def main(given: Sequence[str] | None = None) -> int:
     except BrokenPipeError:  # the reader has seen enough
         os.dup2(os.open(os.devnull, os.O_WRONLY), sys.stdout.fileno())
         return ANSWERED
+    except KeyboardInterrupt:
+        return INTERRUPTED
     except OSError as error:
         _complain(f"{error.filename or 'file'}: {error.strerror or error}")
     except (Wrong, MemoryError) as error:
@@ -63,8 +66,15 @@ def _is_text(path: str, suffix: str) -> bool:
     return Path(path).suffix == suffix
 
 
+def _refuse_text(path: str, suffix: str, wanted: str) -> None:
+    """A text of another kind is no bytes."""
+    if _is_text(path, suffix):
+        raise Wrong(f"{path} is a text, and {wanted} is asked for")
+
+
 def _store(asked: argparse.Namespace, built: bool = True) -> Store:
     """The store that is asked about; a .feed file is built first, or taken as a draft."""
+    _refuse_text(asked.store, ".pat", "a store or a .feed file")
     if _is_text(asked.store, ".feed"):
         graph = Graph.read(asked.store)
         return graph.build() if built else Store(graph.draft(), graph.names)
@@ -74,6 +84,11 @@ def _store(asked: argparse.Namespace, built: bool = True) -> Store:
         return Store.read(asked.store)
     data = Path(asked.store).read_bytes()
     return Store(data, _names(asked.names, data))
+
+
+def _read_pattern(path: str) -> Pattern:
+    _refuse_text(path, ".feed", "a pattern")
+    return Pattern.read(path)
 
 
 def _names(path: str, store: bytes) -> Names:
@@ -91,7 +106,8 @@ def _names(path: str, store: bytes) -> Names:
 
 
 def _build(asked: argparse.Namespace) -> int:
-    _check_output(asked.output, (".feed", ".pat", ".names"))
+    _check_bytes_output(asked.output)
+    _refuse_text(asked.graph, ".pat", "a graph")
     if _is_text(asked.graph, ".feed"):
         graph = Graph.read(asked.graph)
         store = Store(graph.draft(), graph.names) if asked.draft else graph.build()
@@ -102,19 +118,28 @@ def _build(asked: argparse.Namespace) -> int:
     return ANSWERED
 
 
-def _check_output(path: str, suffixes: tuple[str, ...]) -> None:
-    if Path(path).suffix in suffixes:
+def _check_bytes_output(path: str) -> None:
+    if Path(path).suffix in (".feed", ".pat", ".names"):
         raise Wrong(f"{path}: -o names a file of bytes, and {Path(path).suffix} is a text form")
 
 
+def _check_text_output(path: str, suffix: str, force: bool) -> None:
+    """A text that someone may have typed is not written over."""
+    if Path(path).suffix != suffix:
+        raise Wrong(f"{path}: -o names a text, and its name must end in {suffix}")
+    if Path(path).exists() and not force:
+        raise Wrong(f"{path} is there already: give --force to write over it")
+
+
 def _admit(asked: argparse.Namespace) -> int:
+    _refuse_text(asked.store, ".feed", "a store, as 'bahrufaz build' makes it,")
     library.admit(Path(asked.store).read_bytes())
     print(f"{asked.store} is admitted: building from its nodes, edges and constraints gives the same bytes")
     return ANSWERED
 
 
 def _plan(asked: argparse.Namespace) -> int:
-    plan = calls.plan(_store(asked, built=False), Pattern.read(asked.pattern))
+    plan = calls.plan(_store(asked, built=False), _read_pattern(asked.pattern))
     print(tables.plan_json(plan) if asked.json else tables.plan_text(plan))
     return ANSWERED
 
@@ -124,7 +149,7 @@ def _list(asked: argparse.Namespace) -> int:
         return _list_counts(asked)
     if len(asked.pattern) > 1:
         raise Wrong("more than one pattern is given: use --count, or list them one by one")
-    listing = calls.list_matches(_store(asked), Pattern.read(asked.pattern[0]), asked.room)
+    listing = calls.list_matches(_store(asked), _read_pattern(asked.pattern[0]), asked.room)
     if asked.json:
         print(tables.listing_json(listing, asked.ids))
     elif asked.csv:
@@ -138,10 +163,10 @@ def _list_counts(asked: argparse.Namespace) -> int:
     """A line for each pattern: its answer, and how much was found and read."""
     store, rows, worst = _store(asked), [], ANSWERED
     for path in asked.pattern:
-        pattern = Pattern.read(path)
+        pattern = _read_pattern(path)
         try:
             told = calls.list_matches(store, pattern, asked.room)
-            rows.append((Path(path).name, 0, f"{told.matches:,}", f"{told.entries:,}", f"{told.bound:,}", ""))
+            rows.append((Path(path).name, 0, told.matches, told.entries, told.bound, ""))
         except Refused as refused:
             rows.append((Path(path).name, refused.number, "", "", "", refused.sentence))
             worst = REFUSED
@@ -157,32 +182,33 @@ def _show(asked: argparse.Namespace) -> int:
 
 def _text(asked: argparse.Namespace) -> int:
     store = _store(asked, built=False)
-    _put(asked.output, Graph.of_bytes(store.data, store.names).text())
+    _put(asked, Graph.of_bytes(store.data, store.names).text(), ".feed")
     return ANSWERED
 
 
 def _pattern(asked: argparse.Namespace) -> int:
     """Between the text of a pattern and its bytes."""
     names = _store(asked, built=False).names if asked.store else None
-    pattern = Pattern.read(asked.pattern)
+    pattern = _read_pattern(asked.pattern)
     if not _is_text(asked.pattern, ".pat"):
-        _put(asked.output, pattern.text(names))
+        _put(asked, pattern.text(names), ".pat")
         return ANSWERED
     if not asked.output:
         raise Wrong("-o is needed: the bytes of a pattern are not for a terminal")
-    _check_output(asked.output, (".feed", ".pat", ".names"))
+    _check_bytes_output(asked.output)
     data = pattern.encode(names)
     write_whole(asked.output, data)
     print(f"{asked.output}: {tables.counted(len(data), 'byte', 'bytes')}")
     return ANSWERED
 
 
-def _put(output: str | None, text: str) -> None:
+def _put(asked: argparse.Namespace, text: str, suffix: str) -> None:
     """Writes a text to the file that is named, else to standard output."""
-    if output:
-        write_whole(output, text)
-    else:
+    if not asked.output:
         sys.stdout.write(text)
+        return
+    _check_text_output(asked.output, suffix, asked.force)
+    write_whole(asked.output, text)
 
 
 def _draw(asked: argparse.Namespace) -> int:
@@ -198,7 +224,7 @@ def _draw(asked: argparse.Namespace) -> int:
 
 def _dot(asked: argparse.Namespace) -> tuple[str, str]:
     """What is to be drawn as DOT, and a sentence about it."""
-    pattern, caption = Pattern.read(asked.pattern), Path(asked.pattern).name
+    pattern, caption = _read_pattern(asked.pattern), Path(asked.pattern).name
     if asked.what == "pattern":
         names = _store(asked, built=False).names if asked.store else None
         return draw.pattern_dot(pattern, names, caption), "the pattern"
@@ -212,6 +238,7 @@ def _dot(asked: argparse.Namespace) -> tuple[str, str]:
 
 
 def _import(asked: argparse.Namespace) -> int:
+    _check_text_output(asked.output, ".feed", asked.force)
     keys = importing.Keys(asked.name_key, asked.label_key, asked.value_key)
     if Path(asked.file).suffix == ".graphml":
         imported = importing.import_graphml(asked.file, asked.label, keys)

@@ -154,9 +154,9 @@ class _Attributes:
 
     def of(self, element: xml.Element) -> dict[str, str]:
         own = {
-            self._names.get(data.get("key", ""), ""): (data.text or "").strip()
+            self._names.get(data.get("key", ""), ""): data.text.strip()
             for data in element
-            if _tag(data) == "data"
+            if _tag(data) == "data" and data.text and data.text.strip()
         }
         return self._defaults | own
 

@@ -17,13 +17,18 @@ def table(head: Sequence[str], rows: Iterable[Sequence[object]]) -> str:
     """Columns under their heads; columns of numbers stand to the right."""
     body = [list(row) for row in rows]
     columns = list(zip(head, *body))
-    right = [bool(body) and all(isinstance(cell, int) for cell in column[1:]) for column in columns]
+    right = [_is_numbers(column[1:]) for column in columns]
     widths = [max(map(text_width, map(str, column))) for column in columns]
     lines = []
     for row in [head, *body]:
         cells = [_in_column(str(cell), *column) for cell, *column in zip(row, widths, right)]
         lines.append("  ".join(cells).rstrip())
     return "\n".join(lines)
+
+
+def _is_numbers(cells: Sequence[object]) -> bool:
+    """Whether there are numbers, and beside them at most empty places."""
+    return any(isinstance(cell, int) for cell in cells) and all(isinstance(c, int) or c == "" for c in cells)
 
 
 def _in_column(cell: str, width: int, right: bool) -> str:

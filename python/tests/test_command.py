@@ -10,6 +10,7 @@ import sys
 import tempfile
 import unittest
 from pathlib import Path
+from unittest import mock
 
 from bahrufaz import Graph, Pattern, library
 from bahrufaz.command import main
@@ -129,8 +130,8 @@ class Commands(unittest.TestCase):
         self.assertEqual(status, 1)
         self.assertEqual(
             out,
-            "pattern   answer  matches  read  T\n"
-            "a.pat          0  1        8     38\n"
+            "pattern   answer  matches  read   T\n"
+            "a.pat          0        1     8  38\n"
             "only.pat       7                     a pattern node or edge is not covered\n",
         )
         self.assert_status(2, "more than one pattern", "list", "world.store", "a.pat", "a.pat")
@@ -165,6 +166,16 @@ class Commands(unittest.TestCase):
         self.answer("text", self.built(), "-o", "again.feed")
         self.assertEqual(Graph.read("again.feed").draft(), small_world().draft())
         self.assertEqual(self.answer("text", "world.store"), Path("again.feed").read_text())
+
+    def test_a_typed_text_is_not_written_over(self):
+        edges = str(EXAMPLES / "import" / "edges.csv")
+        typed = Path("world.feed").read_text()
+        for command in (["text", self.built()], ["import", edges, "--label", "x"]):
+            self.assert_status(2, "world.feed is there already: give --force", *command, "-o", "world.feed")
+            self.assert_status(2, "its name must end in .feed", *command, "-o", "world.txt")
+            self.assertEqual(Path("world.feed").read_text(), typed)
+        self.answer("import", edges, "--label", "x", "-o", "world.feed", "--force")
+        self.assertNotEqual(Path("world.feed").read_text(), typed)
 
     def test_pattern_to_bytes_and_back(self):
         self.assertEqual(self.answer("pattern", "a.pat", self.built(), "-o", "a.bin"), "a.bin: 94 bytes\n")
@@ -215,6 +226,10 @@ class Commands(unittest.TestCase):
         self.assert_status(2, "invalid choice", "guess")
         self.assert_status(2, "-o names a file of bytes", "build", "world.feed", "-o", "x.feed")
         self.assert_status(2, "expected a whole number, found '-1'", "list", "--room", "-1", "world.feed", "a.pat")
+        self.assert_status(2, "a.pat is a text, and a graph is asked for", "build", "a.pat", "-o", "a.store")
+        self.assert_status(2, "world.feed is a text, and a store", "admit", "world.feed")
+        self.assert_status(2, "a.pat is a text, and a store or a .feed file is asked for", "list", "a.pat", "world.feed")
+        self.assert_status(2, "world.feed is a text, and a pattern is asked for", "list", "world.feed", "world.feed")
         self.assert_status(2, "a store is needed to draw the plan", "draw", "--what", "plan", "a.pat")
 
     def test_every_command_has_help_with_an_example(self):
@@ -226,6 +241,10 @@ class Commands(unittest.TestCase):
 
     def test_version_names_the_library(self):
         self.assertIn(f"library: {library.find()}\n", self.answer("--version"))
+
+    def test_an_interrupt_ends_quietly(self):
+        with mock.patch("bahrufaz.library.admit", side_effect=KeyboardInterrupt):
+            self.assertEqual(self.run_command("admit", self.built()), (130, "", ""))
 
     def test_a_closed_pipe_is_no_error(self):
         command = [sys.executable, "-m", "bahrufaz", "text", "world.feed"]

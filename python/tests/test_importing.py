@@ -87,6 +87,10 @@ class GraphMl(InDirectory):
     def graphml(self, body: str) -> Path:
         return self.file("g.graphml", f'<graphml><key id="k" for="node" attr.name="label"/>{body}</graphml>')
 
+    def test_an_empty_attribute_is_none(self):
+        node = '<node id="a"><data key="k"> </data></node>'
+        self.assertEqual(import_graphml(self.graphml(f"<graph>{node}</graph>"), label="x").graph.nodes, [(1, 0)])
+
     def test_undirected_edges_go_both_ways(self):
         nodes = '<node id="a"/><node id="b"/><node id="c"/>'
         edges = '<edge source="a" target="b"/><edge source="b" target="c" directed="true"/>'

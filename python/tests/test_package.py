@@ -9,6 +9,7 @@ import unittest
 from pathlib import Path
 
 import bahrufaz
+from bahrufaz.numbers import sentence
 
 from .worlds import CHECKOUT, SMALL
 
@@ -37,6 +38,19 @@ class Installed(unittest.TestCase):
             )
         self.assertEqual((done.returncode, done.stderr), (0, ""))
         self.assertIn("432 bytes", done.stdout)
+
+
+class Sentences(unittest.TestCase):
+    def test_a_number_says_the_same_everywhere(self):
+        files = ["include/bahrufaz.h", "rust/src/number.rs", "examples/c/lent.c"]
+        for file in files:
+            # without line breaks, comment stars, and the quotes where a string goes on
+            text = re.sub(r'"\s+"|\s*\n[ *]*', " ", (CHECKOUT / file).read_text()).replace("  ", " ")
+            for number in range(1, 12):
+                self.assertIn(sentence("list", number), text, file)
+            self.assertIn(sentence("admit", 5), text, file)
+            self.assertIn("also g or e not 0", text, file)
+        self.assertTrue(sentence("build", 1).endswith("also g or e not 0"))
 
 
 class Versions(unittest.TestCase):

@@ -79,6 +79,7 @@ fn lowest_address() -> usize {
 mod tests {
     use super::*;
 
+    // A thread may be given a larger stack than it asks for, one that another has left behind: 64 MiB is beyond all.
     #[test]
     fn a_deep_call_gets_a_thread_of_its_own_only_where_it_must() {
         let own = |stack: usize, bytes: usize| {
@@ -89,14 +90,20 @@ mod tests {
             thread.expect("a thread").join().expect("an answer")
         };
         assert!(own(16 << 20, 6 << 20));
-        assert!(!own(1 << 20, 6 << 20));
         assert!(own(1 << 20, 64 << 10));
+        assert!(!own(1 << 20, 64 << 20));
     }
 
     #[test]
-    fn what_is_left_is_about_what_the_thread_has() {
-        let thread = Builder::new().stack_size(4 << 20).spawn(left).expect("a thread");
-        let told = thread.join().expect("an answer");
-        assert!((3 << 20..=(4 << 20) + (64 << 10)).contains(&told), "{told}");
+    fn what_is_left_falls_with_what_is_used() {
+        fn deeper(kib: usize) -> usize {
+            let used = std::hint::black_box([0u8; 1 << 10]);
+            let told = if kib == 0 { left() } else { deeper(kib - 1) };
+            told + usize::from(used[0])
+        }
+        let thread = Builder::new().stack_size(4 << 20).spawn(|| (left(), deeper(1_024)));
+        let (outside, inside) = thread.expect("a thread").join().expect("two answers");
+        assert!(outside > 3 << 20, "{outside}");
+        assert!(outside - inside >= 1 << 20 && inside > 0, "{outside} {inside}");
     }
 }
