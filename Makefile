@@ -13,6 +13,7 @@ run:
 
 test:
 	rt fmt --check
+	tests/contracts.sh
 	cargo test --release --offline --quiet --manifest-path tests/Cargo.toml
 	$(MAKE) --no-print-directory boundary
 	$(MAKE) --no-print-directory desk

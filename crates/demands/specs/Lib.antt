@@ -20,11 +20,15 @@ pub mod GroupBytes
 pub mod Lookup
 pub mod Fit
 pub mod Index
+pub mod Ordered
 pub mod Answered
 pub mod Enough
 pub mod Within
 pub mod Bounded
+pub mod EdgesUnread
 pub mod Reads
+pub mod ReadAlike
 pub mod Local
-pub mod LocalCase
-pub mod Ordered
+pub mod Counted
+pub mod ReadsBounded
+pub mod Cases

@@ -1,63 +1,77 @@
--- Listing depends on nothing but the constraints and the lists that it reads. Assumes nothing.
+-- Two admitted stores that are alike in what listing reads give one answer. Assumes nothing.
 use mathlib.Core.Path.{_≡_, refl, sym, ap, _∙_}
 use mathlib.Core.Bool.{Bool, true, false}
 use mathlib.Core.List.{List, [], _∷_}
-use mathlib.Core.Option.{Option}
-use Prim.Native.Nat.{ℕ, _*_}
-use lib.Dec.{eqb, leb}
-use lib.ListN.{length}
-use Rattle.rules.specs.Store.{headerRight, nodePart, constraintPart, groupPart, entryPart}
+use Prim.Native.Nat.{ℕ}
+use lib.Dec.{eqb}
+use borrow.Author.Tests.{eqb-true, eqb-false}
+use Rattle.rules.specs.Store.{headerRight, constraintPart}
 use Rattle.rules.specs.Plan.{rowsOf, bound}
-use Rattle.rules.specs.Listing.{Reader, Gathered, readerOf, nothing, withRows}
-use Rattle.rules.specs.Answers.{Outcome, admitNumber, refused, boundNumber, gathered, readOutcome, listRefusal, listOutcome}
+use Rattle.rules.specs.Listing.{nothing, withRows}
+use Rattle.rules.specs.Answers.{refused, readOutcome, gathered, admitNumber, listRefusal, listOutcome}
 use Rattle.demands.specs.Every.{Every}
 use Rattle.demands.specs.Numbers.{admitted-sound}
-use Rattle.demands.specs.Reads.{listsRead, AlikeIn, rows-alike}
+use Rattle.demands.specs.Answered.{gatheredOf, list-heard, list-refused}
+use Rattle.demands.specs.EdgesUnread.{refusalBy, refusal-by}
+use Rattle.demands.specs.Reads.{ListRead, storeReader, listsRead, storeReads, callReads, AlikeIn}
+use Rattle.demands.specs.ReadAlike.{rows-alike}
 
--- the reader of a store
-abbrev pub storeReader : List ℕ → Reader
-storeReader s = readerOf (nodePart s) (constraintPart s) (groupPart s) (entryPart s)
+-- ---- two stores with equal constraint sections whose headers are both right or both wrong, alike in each list that listing reads in the first
+module _ (s t b work : List ℕ) (right : headerRight s ≡ headerRight t) (same : constraintPart s ≡ constraintPart t)
+    (alike : Every (AlikeIn (storeReader s) (storeReader t)) (callReads s b work)) where
+  refusal-same : listRefusal s b work ≡ listRefusal t b work
+  refusal-same =
+      refusal-by s b work
+      ∙ ap (λ h. refusalBy h (constraintPart s) b work) right
+      ∙ ap (λ c. refusalBy (headerRight t) c b work) same
+      ∙ sym (refusal-by t b work)
 
--- the lists that listing pattern b in store s reads, in order: constraint and key of each
-abbrev pub storeReads : List ℕ → List ℕ → List (ℕ × List ℕ)
-storeReads s b = listsRead (storeReader s) b (rowsOf (constraintPart s) b)
+  -- where none of these numbers is given, the same is gathered and the same lists are read
+  rows-same : eqb (listRefusal s b work) 0 ≡ true → (gatheredOf s b ≡ gatheredOf t b) × (storeReads s b ≡ storeReads t b)
+  unfolding gathered callReads storeReads
+  rows-same e =
+      let k = rows-alike (storeReader s) (storeReader t) b (rowsOf (constraintPart s) b) (nothing b) (rw (e, callReads) at alike) in
+      (k .0 ∙ ap (λ c. withRows (storeReader t) b (rowsOf c b) (nothing b)) same, k .1 ∙ ap (λ c. listsRead (storeReader t) b (rowsOf c b) (nothing b)) same)
 
--- ---- the listing outcome by its header test, the constraint section, and what is read
-refusalFrom : Bool → List ℕ → List ℕ → List ℕ → ℕ
-refusalFrom right constraints b work =
-    elim right [
-      | true ↦ elim (eqb (boundNumber constraints b) 0) [
-        | true ↦ elim (leb (2 * bound constraints b) (length work)) [ true ↦ 0 | false ↦ 9 ]
-        | false ↦ boundNumber constraints b
-      ]
-      | false ↦ 1
-    ]
+  -- listing has one outcome in both, number, results and both rooms
+  pub listing-local : (room : List ℕ) → listOutcome s b work room ≡ listOutcome t b work room
+  listing-local room = go (eqb (listRefusal s b work) 0) refl
+    where
+      go : (x : Bool) → eqb (listRefusal s b work) 0 ≡ x → listOutcome s b work room ≡ listOutcome t b work room
+      go true e =
+          let z : listRefusal s b work ≡ 0 = eqb-true _ _ e in
+          list-heard s b work room z
+          ∙ ap (λ c. readOutcome b (bound c b) (gatheredOf s b) work room) same
+          ∙ ap (λ o. readOutcome b (bound (constraintPart t) b) o work room) (rows-same e .0)
+          ∙ sym (list-heard t b work room (sym refusal-same ∙ z))
+      go false e =
+          let n = eqb-false (listRefusal s b work) 0 e in
+          list-refused s b work room n
+          ∙ ap (λ n. refused n (0 ∷ 0 ∷ 0 ∷ 0 ∷ []) room work) refusal-same
+          ∙ sym (list-refused t b work room (λ z. n (refusal-same ∙ z)))
 
-listFrom : Bool → List ℕ → Option Gathered → List ℕ → List ℕ → List ℕ → Outcome
-listFrom right constraints read b work room =
-    elim (eqb (refusalFrom right constraints b work) 0) [
-      | true ↦ readOutcome b (bound constraints b) read work room
-      | false ↦ refused (refusalFrom right constraints b work) (0 ∷ 0 ∷ 0 ∷ 0 ∷ []) room work
-    ]
+  -- and reads the same lists in both
+  pub reads-local : callReads s b work ≡ callReads t b work
+  unfolding callReads
+  reads-local = go (eqb (listRefusal s b work) 0) refl
+    where
+      go : (x : Bool) → eqb (listRefusal s b work) 0 ≡ x → callReads s b work ≡ callReads t b work
+      go true e = rw (← refusal-same, e, callReads) (rows-same e .1)
+      go false e = rw (← refusal-same, e, callReads)
 
-list-tests : (s b work room : List ℕ)
-    → listOutcome s b work room ≡ listFrom (headerRight s) (constraintPart s) (withRows (storeReader s) b (rowsOf (constraintPart s) b) (nothing b)) b work room
-unfolding listOutcome listRefusal listFrom refusalFrom gathered
-list-tests s b work room = refl
-
--- Two stores whose headers are right and whose constraint sections are equal, and which are alike in every list that listing the pattern in the first one reads, that is, in the reader's answer for it and in the values of the nodes that it names, give one outcome: number, results and both rooms. They need not be admitted, and may differ in all else.
-pub listing-local : (s t b work room : List ℕ) → headerRight s ≡ true → headerRight t ≡ true → constraintPart s ≡ constraintPart t
-    → Every (AlikeIn (storeReader s) (storeReader t)) (storeReads s b) → listOutcome s b work room ≡ listOutcome t b work room
-unfolding listsRead
-listing-local s t b work room hs ht same alike =
-    list-tests s b work room
-    ∙ ap (λ h. listFrom h (constraintPart s) (withRows (storeReader s) b (rowsOf (constraintPart s) b) (nothing b)) b work room) (hs ∙ sym ht)
-    ∙ ap (λ o. listFrom (headerRight t) (constraintPart s) o b work room) (rows-alike (storeReader s) (storeReader t) b (rowsOf (constraintPart s) b) (nothing b) alike)
-    ∙ ap (λ c. listFrom (headerRight t) c (withRows (storeReader t) b (rowsOf c b) (nothing b)) b work room) same
-    ∙ sym (list-tests t b work room)
-
--- So of two admitted stores.
+-- Listing is local. Let s and t be two admitted stores with equal constraint sections, alike in each list that listing b in s reads: both readers give the same list, and the same value for each node that it names. Then listing b in the same rooms has one outcome in both, number, results and both rooms; and it reads the same lists in both. Of a named node nothing but the value is asked: a fit list says its label. That s and t are admitted is used for their right headers and no more: `listing-local` and `reads-local` have the same for other stores.
 pub admitted-local : (s t b work room : List ℕ) → admitNumber s ≡ 0 → admitNumber t ≡ 0 → constraintPart s ≡ constraintPart t
-    → Every (AlikeIn (storeReader s) (storeReader t)) (storeReads s b) → listOutcome s b work room ≡ listOutcome t b work room
+    → Every (AlikeIn (storeReader s) (storeReader t)) (callReads s b work)
+    → (listOutcome s b work room ≡ listOutcome t b work room) × (callReads s b work ≡ callReads t b work)
 admitted-local s t b work room ps pt same alike =
-    listing-local s t b work room (admitted-sound s ps .right) (admitted-sound t pt .right) same alike
+    let right : headerRight s ≡ headerRight t = admitted-sound s ps .right ∙ sym (admitted-sound t pt .right) in
+    (listing-local s t b work right same alike room, reads-local s t b work right same alike)
+
+-- What holds of each list that the rows of the plan read holds of each that the call reads, whatever the working room.
+pub call-reads : (P : ListRead → Type 0) (s b work : List ℕ) → Every P (storeReads s b) → Every P (callReads s b work)
+unfolding callReads
+call-reads P s b work h = go (eqb (listRefusal s b work) 0)
+  where
+    go : (x : Bool) → Every P (elim x [ true ↦ storeReads s b | false ↦ [] ])
+    go true = h
+    go false = unfold Every in tt
