@@ -8,8 +8,9 @@ SERVE = target/boundary/serve
 SERVED = BAHRUFAZ_SERVE="$(CURDIR)/$(SERVE)" BAHRUFAZ_CALLS="$(CALLS)"
 
 run:
-	@rt check rules
-	@echo "The starred cases of the small world hold over the definitions: crates/rules/specs/Cases.antt has them, one theorem a case."
+	@rt check panel
+	@echo "The matches of pattern A in the small world, by the program panel:"
+	@cd crates/panel/data && ../../../run.sh panel
 
 test:
 	rt fmt --check

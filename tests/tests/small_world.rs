@@ -66,6 +66,21 @@ fn answered(matches: u64, node_entries: u32, edge_entries: u32, bound: u32) -> L
     Listed { number: 0, matches, node_entries, edge_entries, bound }
 }
 
+/// What a program is run on in the gate.
+fn data(file: &str) -> Vec<u8> {
+    let path = format!("{}/../crates/{file}", env!("CARGO_MANIFEST_DIR"));
+    std::fs::read(&path).unwrap_or_else(|error| panic!("{path}: {error}"))
+}
+
+#[test]
+fn files_of_the_programs() {
+    assert_eq!(data("panel/data/store.bin"), built(&world()));
+    assert_eq!(data("cases/data/draft.bin"), world().draft());
+    for program in ["panel", "cases"] {
+        assert_eq!(data(&format!("{program}/data/pattern.bin")), pattern_a().bytes());
+    }
+}
+
 #[test]
 fn lengths_counts_and_offsets() {
     let draft = world().draft();

@@ -1,0 +1,3 @@
+-- What the contracts of the program cite. Assumes nothing.
+pub mod Panel
+pub mod Shown

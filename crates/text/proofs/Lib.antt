@@ -1,0 +1,2 @@
+-- What the proofs of text share. Assumes nothing.
+pub mod Copied
