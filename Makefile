@@ -1,4 +1,4 @@
-# make run: what there is to see today. make test: everything that must hold; its last line is rt ci's own.
+# make run: the small world built, planned and listed. make test: everything that must hold; its last line is rt ci's own.
 .PHONY: run test lib install desk here serve boundary bench
 
 # the calls of crate bahrufaz that the comparison makes
@@ -8,9 +8,12 @@ SERVE = target/boundary/serve
 SERVED = BAHRUFAZ_SERVE="$(CURDIR)/$(SERVE)" BAHRUFAZ_CALLS="$(CALLS)"
 
 run:
-	@rt check panel
-	@echo "The matches of pattern A in the small world, by the program panel:"
-	@cd crates/panel/data && ../../../run.sh panel
+	@rt check tour panel
+	@mkdir -p target/run && cp crates/tour/data/* target/run
+	@echo; echo "The small world's draft is built into a store, and pattern A is planned (crates/tour):"
+	@cd target/run && ../../run.sh tour
+	@echo; echo "The matches of pattern A in that store (crates/panel):"
+	@cd target/run && ../../run.sh panel
 
 test:
 	rt fmt --check

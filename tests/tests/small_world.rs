@@ -75,8 +75,10 @@ fn data(file: &str) -> Vec<u8> {
 #[test]
 fn files_of_the_programs() {
     assert_eq!(data("panel/data/store.bin"), built(&world()));
-    assert_eq!(data("cases/data/draft.bin"), world().draft());
-    for program in ["panel", "cases"] {
+    for program in ["cases", "tour"] {
+        assert_eq!(data(&format!("{program}/data/draft.bin")), world().draft());
+    }
+    for program in ["panel", "cases", "tour"] {
         assert_eq!(data(&format!("{program}/data/pattern.bin")), pattern_a().bytes());
     }
 }

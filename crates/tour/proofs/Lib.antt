@@ -1,0 +1,2 @@
+-- What the proofs of the tour share. Assumes nothing.
+pub mod Built
