@@ -6,6 +6,9 @@ CALLS = build admit plan list
 
 SERVE = target/boundary/serve
 SERVED = BAHRUFAZ_SERVE="$(CURDIR)/$(SERVE)" BAHRUFAZ_CALLS="$(CALLS)"
+ifneq ($(shell uname -m),x86_64)
+SERVED += BAHRUFAZ_EMULATED=1
+endif
 
 run:
 	@rt check tour panel
