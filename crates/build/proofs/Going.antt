@@ -1,9 +1,9 @@
 -- The state of `walk`'s loop, and the laws that take it from its start over each kind of turn to its ends. Assumes nothing.
 use native.Mathlib.Omega.{arith}
 use mathlib.Core.Path.{_≡_, refl, sym, ap, _∙_}
-use mathlib.Core.Bool.{Bool, true}
+use mathlib.Core.Bool.{Bool, true, false}
 use mathlib.Core.List.{List, [], _∷_, _++_, flatMap}
-use Prim.Native.Nat.{ℕ, zero, suc, _+_, _≤_, _<_}
+use Prim.Native.Nat.{ℕ, zero, suc, _+_, _-_, _≤_, _<_}
 use lib.ListN.{length, take, getD}
 use lib.Seq.{slice}
 use borrow.Author.Tests.{le-ltb, lt-ltb, eq-eqb, ne-eqb}

@@ -47,7 +47,7 @@ unfolding flatMap
 flat-none [] = refl
 flat-none (x ∷ xs) = flat-none xs
 
-keep-keep : (p q : ℕ → Bool) (l : List ℕ) → keep p (keep q l) ≡ keep (λ v. q v && p v) l
+pub keep-keep : (p q : ℕ → Bool) (l : List ℕ) → keep p (keep q l) ≡ keep (λ v. q v && p v) l
 unfolding keep
 keep-keep p q [] = refl
 keep-keep p q (x ∷ l) = go (q x) (keep-keep p q l)
@@ -89,13 +89,28 @@ module _ (nb : ℕ → ℕ → Bool) (lab : ℕ → List ℕ) (t : ℕ) where
   unfolding keyedFrom
   here key list = sym (append-nil (cond (ltb t (length list)) (record { key = key; list = list } ∷ []) []))
 
+  -- one node more, whether or not the list is too short
+  pub keyed-flat : (s : ℕ) (labels key list : List ℕ)
+      → keyedFrom nb lab t (s ∷ labels) key list ≡ flatMap (λ u. keyedFrom nb lab t labels (key ++ u ∷ []) (keep (nb u) list)) (lab s)
+  keyed-flat s labels key list = go (decLe (length list) t)
+    where
+      on : ℕ → List Keyed
+      on u = keyedFrom nb lab t labels (key ++ u ∷ []) (keep (nb u) list)
+
+      short : length list ≤ t → (u : ℕ) → [] ≡ on u
+      short h u = sym (keyed-short nb lab t labels (key ++ u ∷ []) (keep (nb u) list) (let m = keep-most (nb u) list in omega arith))
+
+      go : Dec (length list ≤ t) → keyedFrom nb lab t (s ∷ labels) key list ≡ flatMap on (lab s)
+      go (yes h) = keyed-short nb lab t (s ∷ labels) key list h ∙ sym (flat-none (lab s)) ∙ ap (λ f. flatMap f (lab s)) (fun-ext (λ u. short h u))
+      go (no h) = keyed-on nb lab t s labels key list (omega arith)
+
   pub keyed-all : (labels key list : List ℕ) → keyedFrom nb lab t labels key list ≡ keep long (map (onward key list) (choices (map lab labels)))
   unfolding choices keep all
   keyed-all [] key list = here key list ∙ ap (λ x. cond (long x) (x ∷ []) [] ++ []) same
     where
       same : record { key = key; list = list } ≡ onward key list []
       same = ap (λ k. record { key = k; list = list }) (sym (append-nil key)) ∙ ap (λ l. record { key = key ++ []; list = l }) (sym (keep-all list))
-  keyed-all (s ∷ labels) key list = go (decLe (length list) t) ∙ sym (whole (λ k l. keyed-all labels k l))
+  keyed-all (s ∷ labels) key list = keyed-flat s labels key list ∙ sym (whole (λ k l. keyed-all labels k l))
     where
       on : ℕ → List Keyed
       on u = keyedFrom nb lab t labels (key ++ u ∷ []) (keep (nb u) list)
@@ -112,13 +127,6 @@ module _ (nb : ℕ → ℕ → Bool) (lab : ℕ → List ℕ) (t : ℕ) where
       whole ih =
           ap (keep long) (map-flat (onward key list) (λ x. map (λ c. x ∷ c) cs) (lab s)) ∙ keep-flat long (λ x. map (onward key list) (map (λ c. x ∷ c) cs)) (lab s)
           ∙ ap (λ f. flatMap f (lab s)) (fun-ext (λ u. step ih u))
-
-      short : length list ≤ t → (u : ℕ) → [] ≡ on u
-      short h u = sym (keyed-short nb lab t labels (key ++ u ∷ []) (keep (nb u) list) (let m = keep-most (nb u) list in omega arith))
-
-      go : Dec (length list ≤ t) → keyedFrom nb lab t (s ∷ labels) key list ≡ flatMap on (lab s)
-      go (yes h) = keyed-short nb lab t (s ∷ labels) key list h ∙ sym (flat-none (lab s)) ∙ ap (λ f. flatMap f (lab s)) (fun-ext (λ u. short h u))
-      go (no h) = keyed-on nb lab t s labels key list (omega arith)
 
 -- ---- groups
 unfoldable pub toGroup : Graph → ℕ → Keyed → Group

@@ -17,7 +17,7 @@ use Rattle.rules.specs.declared.Constraint.{Constraint}
 use Rattle.rules.specs.declared.Entry.{Entry}
 use Rattle.laws.specs.Cases.{first-holds, second-holds}
 use Rattle.laws.specs.Header.{header-limits, header-ends}
-use Rattle.build.specs.Packed.{EdgesBelow, forwardWords, labelledIn}
+use Rattle.build.specs.Packed.{EdgesBelow, forwardWords, wordIn, labelledIn}
 use Rattle.build.specs.Keyed.{keyedFrom, labelsLeft}
 use Rattle.build.specs.Emit.{sinkOf, Placed}
 use Rattle.build.specs.Pass.{aboveFor, keyedBy, joinedSet, Sound, Right, nothing, passed}
@@ -110,15 +110,19 @@ module _ (s : List ℕ) (header : headerRight s ≡ true) where
         }
 
 -- ---- keys
+pub keyed-any : (nodes edges : List ℕ) → EdgesBelow edges → (t : ℕ) (d : Constraint) → constraintAlone d ≡ true
+    → keyedFrom (wordIn (joinedSet edges)) (labelledIn nodes) t (labelsLeft (d .first) (d .second) (d .third)) [] (labelledIn nodes (d .label)) ≡ keyedIn (graphOf nodes edges) t d
+unfolding keyedIn
+keyed-any nodes edges below t d h =
+    let g = graphOf nodes edges in
+    ap (λ nb. keyedFrom nb (labelledIn nodes) t (labelsLeft (d .first) (d .second) (d .third)) [] (labelledIn nodes (d .label))) (graph-joined edges below nodes)
+    ∙ ap (λ lab. keyedFrom (λ u v. neighbours g v u) lab t (labelsLeft (d .first) (d .second) (d .third)) [] (lab (d .label))) (graph-labelled nodes edges)
+    ∙ ap (λ l. keyedFrom (λ u v. neighbours g v u) (labelled g) t l [] (labelled g (d .label))) (labels-of d h)
+
 module _ (task : Task) (nodes edges : List ℕ) (below : EdgesBelow edges) where
   keyed-by : (d : Constraint) → constraintAlone d ≡ true → keyedBy task nodes (joinedSet edges) d ≡ keyedIn (graphOf nodes edges) (aboveFor task d) d
-  unfolding keyedBy keyedIn
-  keyed-by d h =
-      let g = graphOf nodes edges in
-      let t = aboveFor task d in
-      ap (λ nb. keyedFrom nb (labelledIn nodes) t (labelsLeft (d .first) (d .second) (d .third)) [] (labelledIn nodes (d .label))) (graph-joined edges below nodes)
-      ∙ ap (λ lab. keyedFrom (λ u v. neighbours g v u) lab t (labelsLeft (d .first) (d .second) (d .third)) [] (lab (d .label))) (graph-labelled nodes edges)
-      ∙ ap (λ l. keyedFrom (λ u v. neighbours g v u) (labelled g) t l [] (labelled g (d .label))) (labels-of d h)
+  unfolding keyedBy
+  keyed-by d h = keyed-any nodes edges below (aboveFor task d) d h
 
   above-zero : task .above ≡ 0 → (d : Constraint) → aboveFor task d ≡ 0
   unfolding aboveFor
@@ -170,7 +174,7 @@ total-groups g (x ∷ xs) =
 
 -- ---- the whole of a right store
 module _ {s : List ℕ} (right : Right s) where
-  each-constraint : (c : ℕ) → c < constraintsIn (constraintPart s) → constraintAlone (constraintAt (constraintPart s) c) ≡ true
+  pub each-constraint : (c : ℕ) → c < constraintsIn (constraintPart s) → constraintAlone (constraintAt (constraintPart s) c) ≡ true
   unfolding constraintsRight constraintRight
   each-constraint c h =
       first-holds (constraintAlone (constraintAt (constraintPart s) c)) (allFrom (λ d. not (alike (constraintAt (constraintPart s) d) (constraintAt (constraintPart s) c))) 0 c)

@@ -10,10 +10,14 @@ pub mod Nearby
 pub mod Going
 pub mod Passing
 pub mod Groups
+pub mod Sifting
+pub mod Exceeding
+pub mod Useless
 pub mod Graphs
 pub mod Items
 pub mod Whole
 pub mod Index
+pub mod Exceeds
 pub mod Numbers
 pub mod Written
 pub mod Built

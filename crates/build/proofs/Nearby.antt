@@ -1,18 +1,18 @@
 -- Laws of the nodes near a list: the words of a node stand together, their low halves ascend, and no node that matters is left out. Assumes nothing.
 use native.Mathlib.Omega.{arith}
 use native.Mathlib.Decide.{decLe, ℕ-discrete}
-use mathlib.Core.Path.{_≡_, refl, sym, ap, _∙_}
+use mathlib.Core.Path.{_≡_, refl, sym, ap, ap₂, _∙_}
 use mathlib.Core.Bool.{Bool, true, false, _&&_, _||_, true≢false}
-use mathlib.Core.List.{List, [], _∷_, _++_, flatMap, append-nil, append-assoc}
+use mathlib.Core.List.{List, [], _∷_, _++_, map, flatMap, append-nil, append-assoc}
 use Prim.Native.Nat.{ℕ, zero, suc, _+_, _-_, _*_, _%_, _≤_, _<_}
-use lib.Dec.{eqb, ltb}
+use lib.Dec.{eqb, ltb, leb}
 use lib.ListN.{length, take, drop, length-append}
 use lib.Seq.{slice, take-length, take-at}
 use borrow.Author.Tests.{lt-ltb, le-ltb, le-leb, lt-leb, eq-eqb, ne-eqb}
 use Rattle.rules.specs.Words.{part}
 use Rattle.rules.specs.Lists.{range, has, keep, sortOf, setOf, From, Strict}
 use Rattle.rules.specs.Store.{nodesIn}
-use Rattle.laws.specs.Sets.{same-members, is-set}
+use Rattle.laws.specs.Sets.{same-members, is-set, below}
 use Rattle.laws.specs.Members.{keep-yes, keep-no, has-keep, keep-from, from-lower, has-append}
 use Rattle.laws.specs.Chosen.{keep-append}
 use Rattle.laws.specs.PartMembers.{part-slice}
@@ -226,16 +226,20 @@ unfolding nearOf flatMap keep
 gathered {p} {joined} {whole} {out} {k} g = sym (append-nil (take k out)) ∙ g .todo
 
 -- a set at the front of a run
-pub set-front : (w last rest : List ℕ) (r k : ℕ) → r ≡ length (setOf w) → last ≡ setOf w ++ drop r (sortOf w) → length last ≡ length w → length w ≤ k
-    → (r ≤ k) × (take r (last ++ rest) ≡ setOf w)
-set-front w last rest r k q p e h =
-    let n : length last ≡ length (setOf w) + length (drop r (sortOf w)) = ap length p ∙ length-append (setOf w) (drop r (sortOf w)) in (
-      omega arith,
-      ap (take r) (ap (λ x. x ++ rest) p ∙ append-assoc (setOf w) (drop r (sortOf w)) rest) ∙ take-at (setOf w) (drop r (sortOf w) ++ rest) r (sym q),
-    )
+pub set-front : (w l last rest : List ℕ) (r : ℕ) → w ≡ l → r ≡ length (setOf w) → last ≡ setOf w ++ drop r (sortOf w)
+    → (r ≤ length (last ++ rest)) × (take r (last ++ rest) ≡ setOf l)
+set-front w l last rest r e q p =
+    let s : last ++ rest ≡ setOf w ++ (drop r (sortOf w) ++ rest) = ap (λ x. x ++ rest) p ∙ append-assoc (setOf w) (drop r (sortOf w)) rest in
+    let n : length (last ++ rest) ≡ length (setOf w) + length (drop r (sortOf w) ++ rest) = ap length s ∙ length-append (setOf w) (drop r (sortOf w) ++ rest) in
+    (omega arith, ap (take r) s ∙ take-at (setOf w) (drop r (sortOf w) ++ rest) r (sym q) ∙ ap setOf e)
 
-pub tried-set : {nodes joined list w x : List ℕ} {l : ℕ} → Joined joined → w ≡ keep (isLabelled nodes l) (nearOf joined list) → x ≡ setOf w → Tried nodes joined l list x
-tried-set {nodes} {joined} {list} {w} {x} {l} j q e = rw (e, q) (set-tried j nodes l list)
+pub few-set : (w last : List ℕ) (r k : ℕ) → r ≡ length (setOf w) → last ≡ setOf w ++ drop r (sortOf w) → length last ≡ length w → length w ≤ k → r ≤ k
+few-set w last r k q p e h =
+    let n : length last ≡ length (setOf w) + length (drop r (sortOf w)) = ap length p ∙ length-append (setOf w) (drop r (sortOf w)) in
+    omega arith
+
+pub tried-set : {nodes joined list x : List ℕ} {l : ℕ} → Joined joined → x ≡ setOf (keep (isLabelled nodes l) (nearOf joined list)) → Tried nodes joined l list x
+tried-set {nodes} {joined} {list} {x} {l} j e = rw e (set-tried j nodes l list)
 
 pub tried-all : {nodes joined list x : List ℕ} {l : ℕ} → x ≡ labelledIn nodes l → Tried nodes joined l list x
 tried-all {nodes} {joined} {list} {x} {l} e = rw e (all-tried nodes joined l list)

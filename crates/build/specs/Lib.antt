@@ -5,3 +5,5 @@ pub mod Emit
 pub mod Walk
 pub mod Pass
 pub mod Outcome
+pub mod Exceed
+pub mod Useful

@@ -1,10 +1,10 @@
 -- The nodes near a list, found from the words of its own nodes.
 use Prim.Native.Nat.{ℕ, _+_, _*_, _%_}
 use mathlib.Core.Path.{_≡_}
-use mathlib.Core.Bool.{Bool, false, _&&_}
+use mathlib.Core.Bool.{Bool, true, false, _&&_}
 use mathlib.Core.List.{List, [], map, flatMap}
 use lib.Dec.{ltb}
-use Rattle.rules.specs.Lists.{keep, Strict}
+use Rattle.rules.specs.Lists.{keep, has, Strict}
 use Rattle.rules.specs.Store.{nodesIn}
 use Rattle.laws.specs.Searching.{between}
 use Rattle.build.specs.Packed.{wordIn, hasLabel, labelledIn}

@@ -1,6 +1,7 @@
 // Refusals 2 and 3; refusals 4 and 11, and how many groups and entries the index has.
 use crate::Tally;
 use crate::Task;
+use crate::exceed::some_exceeds;
 use crate::pass::pass;
 ghost use mathlib.Core.Path.{_≡_};
 ghost use mathlib.Core.Bool.{true, false};
@@ -16,24 +17,6 @@ pub struct Counted {
     pub number: u32,
     pub groups: u32,
     pub entries: u32,
-}
-
-// Whether some list of the graph exceeds its N.
-fn some_exceeds(s: &[u8], joined: &[u32]) -> bool
-    requires { ⌜ AtHand (now s) (now joined) ⌝ }
-    ensures { λ r. ⌜ r ≡ exceeds (now (s .entry)) ⌝ }
-{
-    let mut none = [0u8; 1];
-    let task = Task {
-        mode: 0,
-        above: 1,
-        groups: 0,
-        entries: 1048576,
-        table: 0,
-        lists: 0,
-    };
-    let t = pass(task, s, joined, s, &mut none);
-    t.stopped
 }
 
 // Counts the groups and entries of the index, and stops where they are too many.

@@ -2,6 +2,7 @@
 mod adjacency;
 mod count;
 mod emit;
+mod exceed;
 mod joined;
 mod near;
 mod pass;

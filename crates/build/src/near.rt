@@ -13,7 +13,7 @@ ghost use Rattle.build.specs.Packed.{wordIn};
 ghost use Rattle.build.specs.Near.{wordsOf, lows, nearOf, isLabelled, Joined, Tried};
 
 // The words with u in their high half.
-fn words_of(words: &[u32], u: u32) -> &[u32]
+pub fn words_of(words: &[u32], u: u32) -> &[u32]
     requires { ⌜ (u < 65535) × Strict (now words) ⌝ }
     ensures { λ r. ⌜ now r ≡ wordsOf (now (words .entry)) u ⌝ }
 {

@@ -9,10 +9,11 @@ use rules::Key;
 ghost use mathlib.Core.Path.{_≡_};
 ghost use Prim.Native.Nat.{_<_};
 ghost use lib.ListN.{length};
-ghost use Rattle.rules.specs.Store.{constraintsIn};
+ghost use Rattle.rules.specs.Store.{constraintsIn, nodePart, edgePart, constraintPart};
 ghost use Rattle.build.specs.Packed.{forwardWords};
+ghost use Rattle.build.specs.Near.{Joined};
 ghost use Rattle.build.specs.Emit.{sinkOf, Placed};
-ghost use Rattle.build.specs.Pass.{taskFor, Ready, visited, visitedAll, AtHand, passed};
+ghost use Rattle.build.specs.Pass.{taskFor, Ready, visited, visitedAll, nothing, Sound, AtHand, passed};
 
 // The task for a constraint: where it asks for lists above N, those above this constraint's.
 fn task_for(task: Task, d: Constraint) -> Task
@@ -134,10 +135,10 @@ fn visit_all(
     t
 }
 
-// Counts, writes or compares all groups of the graph of s, whose edges both ways round are at hand as words.
-pub fn pass(task: Task, s: &[u8], joined: &[u32], store: &[u8], room: &mut [u8]) -> Tally
-    requires { ⌜ AtHand (now s) (now joined) × Placed task (length (now store)) (length (now room)) ⌝ }
-    ensures { λ r. ⌜ sinkOf r (now (room .exit)) ≡ passed task (now (s .entry)) (now (store .entry)) (now (room .entry)) ⌝ }
+// Goes through the keys of every constraint of a graph, whose edges both ways round are at hand as words.
+fn pass_over(task: Task, s: &[u8], joined: &[u32], store: &[u8], room: &mut [u8]) -> Tally
+    requires { ⌜ (Sound (now s) × Joined (now joined)) × Placed task (length (now store)) (length (now room)) ⌝ }
+    ensures { λ r. ⌜ sinkOf r (now (room .exit)) ≡ visitedAll task (nodePart (now (s .entry))) (now (joined .entry)) (forwardWords (edgePart (now (s .entry)))) (constraintPart (now (s .entry))) (now (store .entry)) (sinkOf nothing (now (room .entry))) ⌝ }
 {
     let nodes = store::node_part(s);
     let edges = store::edge_part(s);
@@ -171,4 +172,12 @@ pub fn pass(task: Task, s: &[u8], joined: &[u32], store: &[u8], room: &mut [u8])
         room,
         tally,
     )
+}
+
+// Counts, writes or compares all groups of the graph of s.
+pub fn pass(task: Task, s: &[u8], joined: &[u32], store: &[u8], room: &mut [u8]) -> Tally
+    requires { ⌜ AtHand (now s) (now joined) × Placed task (length (now store)) (length (now room)) ⌝ }
+    ensures { λ r. ⌜ sinkOf r (now (room .exit)) ≡ passed task (now (s .entry)) (now (store .entry)) (now (room .entry)) ⌝ }
+{
+    pass_over(task, s, joined, store, room)
 }

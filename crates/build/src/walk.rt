@@ -40,7 +40,7 @@ fn with_id(key: Key, at: u32, u: u32) -> Key
 }
 
 // The labels after the first.
-fn rest_of(left: Labels) -> Labels
+pub fn rest_of(left: Labels) -> Labels
     ensures { λ r. ⌜ r ≡ restOf left ⌝ }
 {
     Labels {

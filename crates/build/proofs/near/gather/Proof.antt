@@ -1,7 +1,7 @@
 -- `build::near::gather` meets its contract. Nearby.antt has the loop's state and its laws. Assumes nothing.
 use borrow.Author.Needs.{needs}
 use native.Mathlib.Omega.{arith}
-use mathlib.Core.Path.{_≡_, refl, _∙_}
+use mathlib.Core.Path.{_≡_, refl, sym, _∙_}
 use Prim.Native.Nat.{_-_, _≤_}
 use lib.ListN.{length, drop, drop-of-length-le}
 use Rattle.rules.specs.Lists.{keep}

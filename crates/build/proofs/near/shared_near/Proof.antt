@@ -2,7 +2,7 @@
 use borrow.Author.Needs.{needs}
 use native.Mathlib.Omega.{arith}
 use mathlib.Core.Path.{_≡_, refl, sym, _∙_}
-use Prim.Native.Nat.{_-_, _≤_}
+use Prim.Native.Nat.{_-_, _%_, _≤_}
 use lib.ListN.{length, drop, length-set, length-map, drop-of-length-le}
 use Rattle.rules.specs.Lists.{keep}
 use Rattle.laws.specs.Slices.{drop-next}

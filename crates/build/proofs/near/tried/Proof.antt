@@ -2,7 +2,7 @@
 use borrow.Author.Needs.{needs}
 use native.Mathlib.Omega.{arith}
 use lib.ListN.{length-take}
-use Rattle.build.proofs.Nearby.{set-front, tried-set, tried-all}
+use Rattle.build.proofs.Nearby.{set-front, few-set, tried-set, tried-all}
 use Rattle.build.proofs.near.tried.Statement.{statement}
 use Rattle.build.proofs.near.tried.Tie as tie
 
@@ -31,8 +31,10 @@ returns c =
     let set = c .before .before .before .before in
     let test = set .before .before .before in
     let s = test .before .before .before .before .before .before .before .before .before .before in
-    let found = set-front _ _ _ _ 65536 (set .to-set .ensures .0) (set .to-set .ensures .1 .0) (set .to-set .kept .0) (simp length-take (omega arith)) in
-    (found .0, tried-set (s .pre .1 .1) (test .before .before .before .gather .ensures (test .if1 .taken)) (found .1))
+    let found = set-front _ _ _ _ _ (test .before .before .before .gather .ensures (test .if1 .taken)) (set .to-set .ensures .0) (set .to-set .ensures .1 .0) in (
+      few-set _ _ _ 65536 (set .to-set .ensures .0) (set .to-set .ensures .1 .0) (set .to-set .kept .0) (simp length-take (omega arith)),
+      tried-set (s .pre .1 .1) (found .1),
+    )
 
 labelled-requires : tie.Need-labelled-requires
 labelled-requires c κs = search needs

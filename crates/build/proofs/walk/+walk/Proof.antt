@@ -1,7 +1,7 @@
 -- `build::walk::walk` meets its contract. Assumes nothing.
 use borrow.Author.Needs.{needs}
 use native.Mathlib.Omega.{arith}
-use mathlib.Core.Path.{_≡_, refl, _∙_}
+use mathlib.Core.Path.{_≡_, refl, sym, _∙_}
 use lib.ListN.{length, length-take}
 use Rattle.build.specs.Packed.{forwardWords}
 use Rattle.build.specs.Walk.{labelsIn}
