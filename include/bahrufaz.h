@@ -48,12 +48,15 @@ enum bahrufaz_number {
 
 /* Writes the store of a draft into the room. Results: its length in bytes.
  * A store is at most 17,301,928 bytes long. Stack: under 4 MiB (3,936,624 bytes were measured at
- * most, on a draft of 65,535 nodes with three labels in S). */
+ * most, on a draft of 65,535 nodes with three labels in S).
+ * Time follows nodes, edges and entries, times a logarithm, but for constraints with two or three
+ * labels in S whose lists hold a node with very many neighbours: there it can follow the square of
+ * its neighbours, tens of seconds for 60,000 of them, and more where partial keys lead to no list. */
 uint32_t bahrufaz_build(const uint8_t *draft, size_t draft_length, uint8_t *room, size_t room_length,
                         uint32_t results[8]);
 
 /* Whether building from the store's own nodes, edges and constraints gives the same bytes.
- * Stack: as building. */
+ * Stack and time: as building. */
 uint32_t bahrufaz_admit(const uint8_t *store, size_t store_length);
 
 /* Writes the rows of the plan, 8 words each, into the room: 512 words are always enough.
