@@ -25,3 +25,4 @@ pub mod Packing
 pub mod Covering
 pub mod PartMembers
 pub mod Matches
+pub mod Capped
