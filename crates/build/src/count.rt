@@ -1,7 +1,6 @@
 // Refusals 2 and 3; refusals 4 and 11, and how many groups and entries the index has.
 use crate::Tally;
 use crate::Task;
-use crate::exceed::some_exceeds;
 use crate::pass::pass;
 ghost use mathlib.Core.Path.{_≡_};
 ghost use mathlib.Core.Bool.{true, false};
@@ -58,12 +57,12 @@ pub fn record_number(s: &[u8]) -> u32
     0
 }
 
-// What a store or draft without refusal 1, 2 or 3 gives: 4, 11, or 0 and the counts.
-pub fn count(s: &[u8], joined: &[u32]) -> Counted
-    requires { ⌜ AtHand (now s) (now joined) ⌝ }
+// What a store or draft without refusal 1, 2 or 3 gives: 4, 11, or 0 and the counts. Whether a list exceeds its N is told, so that the rooms for asking it do not stand on the stack together with those for counting.
+pub fn count(s: &[u8], joined: &[u32], above: bool) -> Counted
+    requires { ⌜ AtHand (now s) (now joined) × (above ≡ exceeds (now s)) ⌝ }
     ensures { λ r. ⌜ (r .number ≡ graphNumber (now (s .entry))) × (r .number ≡ 0 → (r .groups ≡ length (storeIndex (now (s .entry)))) × (r .entries ≡ entryTotal (storeIndex (now (s .entry))))) ⌝ }
 {
-    if some_exceeds(s, joined) {
+    if above {
         return Counted {
             number: 4,
             groups: 0,

@@ -12,6 +12,7 @@ mod write;
 use count::count;
 use count::record_number;
 use emit::bytes_same;
+use exceed::some_exceeds;
 use joined::own_joined;
 use pass::pass;
 use rules::Built;
@@ -70,7 +71,8 @@ fn build_with(draft: &[u8], joined: &[u32], room: &mut [u8]) -> Built
     requires { ⌜ (draftRight (now draft) ≡ true) × AtHand (now draft) (now joined) ⌝ }
     ensures { λ r. ⌜ gave (r .number) (r .length) (now (room .exit)) ≡ buildOutcome (now (draft .entry)) (now (room .entry)) ⌝ }
 {
-    let c = count(draft, joined);
+    let above = some_exceeds(draft, joined);
+    let c = count(draft, joined, above);
     if c.number != 0 {
         return Built {
             number: c.number,
@@ -147,7 +149,8 @@ fn admit_with(s: &[u8], joined: &[u32]) -> u32
     requires { ⌜ AtHand (now s) (now joined) ⌝ }
     ensures { λ r. ⌜ r ≡ admitNumber (now (s .entry)) ⌝ }
 {
-    let c = count(s, joined);
+    let above = some_exceeds(s, joined);
+    let c = count(s, joined, above);
     if c.number == 11 {
         return 5;
     }
