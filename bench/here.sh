@@ -1,6 +1,6 @@
 #!/bin/sh
 # here.sh OUT CALL..: the program that makes the library's calls, for this processor, of target/lib/libbahrufaz.a
-# (make lib). It is for times only: what the tests compare is the archive for x86-64 itself.
+# (make lib). What make boundary compares is the archive for x86-64 itself.
 set -eu
 out=$1
 shift
