@@ -1,5 +1,5 @@
 # make run: the small world built, planned and listed. make test: everything that must hold; its last line is rt ci's own.
-.PHONY: run test lib install desk here serve boundary bench
+.PHONY: run test lib install desk here serve boundary compared bench
 
 # the calls of crate bahrufaz that the comparison makes
 CALLS = build admit plan list
@@ -58,8 +58,13 @@ serve: lib
 		tests/boundary/serve.c target/staticlib/libbahrufaz.a -o $(SERVE).x86-64 && \
 	printf '#!/bin/sh\nexec %s "%s"\n' "$$EMULATOR" "$(CURDIR)/$(SERVE).x86-64" >$(SERVE) && chmod +x $(SERVE)
 
-# the library's calls against the second reading; TEST=.. CASE_SEED=.. for one case again
-boundary: serve
+# the library's calls against the second reading; TEST=.. CASE_SEED=.. for one case again. Where the processor is another than x86-64 and
+# neither has a compiler for it nor can get one, this says so, and `make desk` alone compares.
+boundary:
+	@if [ "$$(uname -m)" = x86_64 ] || tests/boundary/tools.sh >/dev/null; then $(MAKE) --no-print-directory compared; \
+	else echo "boundary: NOT RUN, no program for x86-64 can be made here"; fi
+
+compared: serve
 	$(SERVED) cargo test --release --offline --quiet --manifest-path tests/Cargo.toml --test boundary -- --nocapture $(TEST)
 
 # on a processor that the kit makes no archive for: the library for it against the second reading, too
