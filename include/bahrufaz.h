@@ -50,8 +50,9 @@ enum bahrufaz_number {
  * A store is at most 17,301,928 bytes long. Stack: under 4 MiB (3,936,648 bytes were measured at
  * most, on a draft of 65,535 nodes with three labels in S).
  * Time follows nodes, edges and entries, times a logarithm, but for constraints with two or three
- * labels in S whose lists hold a node with very many neighbours: there it can follow the square of
- * its neighbours, tens of seconds for 60,000 of them, and more where partial keys lead to no list. */
+ * labels in S whose lists hold a node with very many neighbours. Measured there: 5 s for 60,000
+ * neighbours and two labels, 22 s for 61,001 and three; with 20,000 neighbours of each of two labels
+ * of S and none of the third, whose index is empty, the call had not ended after 75 s. */
 uint32_t bahrufaz_build(const uint8_t *draft, size_t draft_length, uint8_t *room, size_t room_length,
                         uint32_t results[8]);
 
