@@ -48,7 +48,7 @@ enum bahrufaz_number {
 
 /* Writes the store of a draft into the room. Results: its length in bytes.
  * A store is at most 17,301,928 bytes long. Stack: under 4 MiB (3,936,648 bytes were measured at
- * most, on a draft of 65,535 nodes with three labels in S).
+ * most, over small drafts, feed panels and worlds at the limits).
  * Time follows nodes, edges and entries, times a logarithm, but for constraints with two or three
  * labels in S whose lists hold a node with very many neighbours. Measured there: 5 s for 60,000
  * neighbours and two labels, 22 s for 61,001 and three; with 20,000 neighbours of each of two labels
