@@ -216,6 +216,9 @@ fn limits() {
         worlds::too_many_groups_draft(),
         worlds::huge_hub_draft(false),
         worlds::huge_hub_draft(true),
+        worlds::uneven_hub_draft([500, 500, 1, 60_000]),
+        worlds::uneven_hub_draft([20_000, 20_000, 0, 1]),
+        worlds::crossed_draft(),
     ];
     drafts.extend(worlds::over_limit_stores());
     let build: Vec<Case> = drafts

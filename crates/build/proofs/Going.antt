@@ -1,28 +1,31 @@
 -- The state of `walk`'s loop, and the laws that take it from its start over each kind of turn to its ends. Assumes nothing.
 use native.Mathlib.Omega.{arith}
 use mathlib.Core.Path.{_≡_, refl, sym, ap, _∙_}
-use mathlib.Core.Bool.{Bool, true, false}
+use mathlib.Core.Bool.{Bool, true}
 use mathlib.Core.List.{List, [], _∷_, _++_, flatMap}
-use Prim.Native.Nat.{ℕ, zero, suc, _+_, _-_, _≤_, _<_}
-use lib.ListN.{length, take, getD}
-use lib.Seq.{slice}
+use Prim.Native.Nat.{ℕ, zero, suc, _+_, _*_, _/_, _≤_, _<_}
+use lib.Dec.{leb}
+use lib.ListN.{length, take, getD, length-take}
+use lib.Seq.{getD-take}
 use borrow.Author.Tests.{le-ltb, lt-ltb, eq-eqb, ne-eqb}
-use Rattle.rules.specs.Lists.{keep, padded}
+use Rattle.rules.specs.Words.{part}
+use Rattle.rules.specs.Lists.{keep, padded, Strict}
 use Rattle.rules.specs.Index.{noId}
+use Rattle.rules.specs.Store.{nodesIn}
 use Rattle.rules.specs.declared.Key.{Key}
 use Rattle.laws.specs.Keeping.{keep-most}
-use Rattle.laws.specs.Members.{keep-from}
-use Rattle.laws.specs.Slices.{slice-next, slice-none}
+use Rattle.laws.specs.Searching.{lower, lower-within}
 use Rattle.build.specs.Packed.{wordIn, labelledIn}
-use Rattle.build.specs.Near.{Tried}
+use Rattle.build.specs.Pairs.{told, Paired}
 use Rattle.build.specs.Keyed.{Keyed, keyedFrom, labelsLeft}
 use Rattle.build.specs.Emit.{idsOf, Sink, sinkOf, emit, emitAll}
 use Rattle.build.specs.Walk.{withId, restOf, labelsIn, chosen, keyedOf, Fit, Done}
 use Rattle.build.specs.declared.Task.{Task}
 use Rattle.build.specs.declared.Tally.{Tally}
 use Rattle.build.specs.declared.Labels.{Labels}
-use Rattle.build.proofs.Nearby.{tried-flat}
+use Rattle.build.proofs.Nearby.{labelled-strict}
 use Rattle.build.proofs.Emitting.{emit-stopped}
+use Rattle.build.proofs.Turning.{labelled-below, listed-keep, keep-high, flat-none, flat-split, from-nothing, end-none, up, tried, passed, told-part, front-part}
 
 -- ---- labels
 pub labels-next : (a b c : ℕ) → (a ≡ 0 → ⊥) → labelsLeft a b c ≡ a ∷ labelsLeft b c 0
@@ -74,26 +77,26 @@ pub labels-fall : (left left′ : Labels) → (left .first ≡ 0 → ⊥) → le
 labels-fall left left′ h e = ap length (labels-next (left .first) (left .second) (left .third) h) ∙ ap (λ l. suc (length (labelsIn l))) (sym e)
 
 -- one level deeper
-module _ {task : Task} {nodes joined : List ℕ} {left left′ : Labels} {key key′ : Key} {at : ℕ} {list list′ one two two′ three three′ none′ a b b′ c c′ near′ store room room′ : List ℕ} where
-  pub fit-next : (u : ℕ) (p : ℕ → Bool) → Fit task nodes joined left key at list one two three a b c store room → (left .first ≡ 0 → ⊥) → key′ ≡ withId key at u → left′ ≡ restOf left
-      → list′ ≡ keep p list → length two′ ≡ length two → length three′ ≡ length three → length b′ ≡ length b → length c′ ≡ length c → length room′ ≡ length room
-      → Fit task nodes joined left′ key′ (at + 1) list′ two′ three′ none′ b′ c′ near′ store room′
-  fit-next u p f h k r l e₂ e₃ eb ec er =
-      let less : length list′ ≤ length list = rw l (keep-most p list) in
+module _ {task : Task} {nodes joined starts edges begins : List ℕ} {l : ℕ} {left left′ : Labels} {key key′ : Key} {at : ℕ} {list list′ one two two′ none′ a b b′ empty′ store room room′ : List ℕ} where
+  pub fit-next : (u : ℕ) (p : ℕ → Bool) → Fit task nodes joined starts edges begins l left key at list one two a b store room → (left .first ≡ 0 → ⊥) → key′ ≡ withId key at u → left′ ≡ restOf left
+      → list′ ≡ keep p list → length two′ ≡ length two → length b′ ≡ length b → length room′ ≡ length room
+      → Fit task nodes joined starts edges begins l left′ key′ (at + 1) list′ two′ none′ b′ empty′ store room′
+  fit-next u p f h k r e e₂ eb er =
+      let less : length list′ ≤ length list = rw e (keep-most p list) in
       let fall = labels-fall left left′ h r in
       let level = f .level in
       let short = f .short in
       record {
         placed = rw er (f .placed);
-        few = f .few;
-        both = f .both;
+        held = f .held;
+        edged = f .edged;
         short = omega arith;
-        ascends = rw l (keep-from p 0 list (f .ascends));
+        listed = rw e (listed-keep p (f .listed));
         level = omega arith;
         unused = rw k (unused-more key at u (omega arith) (f .unused));
         first = λ z. rw (e₂, eb) (f .second (λ q. z (ap (λ x. x .first) r ∙ q)));
-        second = λ z. rw (e₃, ec) (f .third (λ q. z (ap (λ x. x .second) r ∙ q)));
-        third = λ z. absurd (z (ap (λ x. x .third) r));
+        second = λ z. absurd (z (ap (λ x. x .second) r ∙ f .third));
+        third = ap (λ x. x .third) r;
       }
 
 -- ---- all of them
@@ -109,66 +112,125 @@ module _ (task : Task) (words store : List ℕ) (c : ℕ) where
   emitAll-stopped t room (x ∷ xs) h =
       ap (λ s. emitAll task words store c s xs) (sym (emit-stopped task words store c (padded noId (x .key)) (x .list) t room h)) ∙ emitAll-stopped t room xs h
 
--- the keys that go on with one of these nodes
+-- the keys that go on with this node, and with those of the first label from b on
 abbrev next : Task → List ℕ → List ℕ → Labels → Key → ℕ → List ℕ → ℕ → List Keyed
 next task nodes joined left key at list u =
     keyedFrom (wordIn joined) (labelledIn nodes) (task .above) (labelsIn (restOf left)) (chosen key at ++ u ∷ []) (keep (wordIn joined u) list)
 
-abbrev from : Task → List ℕ → List ℕ → Labels → Key → ℕ → List ℕ → List ℕ → List Keyed
-from task nodes joined left key at list us = flatMap (next task nodes joined left key at list) us
+abbrev from : Task → List ℕ → List ℕ → Labels → Key → ℕ → List ℕ → ℕ → List Keyed
+from task nodes joined left key at list b = flatMap (next task nodes joined left key at list) (keep (leb b) (labelledIn nodes (left .first)))
 
--- the first i of the n nodes that are tried are done
+-- a node that is joined with none of the list leads to no key
+none-left : (task : Task) (nodes joined : List ℕ) (left : Labels) (key : Key) (at : ℕ) (list : List ℕ) (u : ℕ) → keep (wordIn joined u) list ≡ [] → next task nodes joined left key at list u ≡ []
+none-left task nodes joined left key at list u e =
+    let z : length (keep (wordIn joined u) list) ≡ 0 = ap length e in
+    keyed-short (wordIn joined) (labelledIn nodes) (task .above) (labelsIn (restOf left)) (chosen key at ++ u ∷ []) (keep (wordIn joined u) list) (omega arith)
+
+-- the first i of the n words are those of the nodes below a bound, and these are done
 pub record Going (task : Task) (nodes joined words : List ℕ) (left : Labels) (key : Key) (at : ℕ) (list store : List ℕ) (t₀ : Tally) (room₀ : List ℕ)
-    (near : List ℕ) (n i : ℕ) (t : Tally) (room : List ℕ) : Type 0 where
+    (run : List ℕ) (n i : ℕ) (t : Tally) (room : List ℕ) : Type 0 where
+  pub few : n ≤ 65536
+  pub whole : length (take n run) ≡ n
+  pub inside : n ≤ length run
   pub ahead : i ≤ n
-  pub inside : n ≤ length near
+  pub pairs : Paired nodes joined (left .first) list (take n run)
+  pub bound : ℕ
+  pub reached : i ≡ lower (bound * 65536) (take n run)
   pub todo : emitAll task words store (key .constraint) (sinkOf t₀ room₀) (keyedOf task nodes joined left key at list)
-      ≡ emitAll task words store (key .constraint) (sinkOf t room) (from task nodes joined left key at list (slice i n near))
+      ≡ emitAll task words store (key .constraint) (sinkOf t room) (from task nodes joined left key at list bound)
 
-module _ {task : Task} {nodes joined words : List ℕ} {left : Labels} {key : Key} {at : ℕ} {list store : List ℕ} {t₀ : Tally} {room₀ near : List ℕ} where
-  pub begun : (n : ℕ) → task .above < length list → (left .first ≡ 0 → ⊥) → n ≤ length near → Tried nodes joined (left .first) list (take n near)
-      → Going task nodes joined words left key at list store t₀ room₀ near n 0 t₀ room₀
-  begun n h k fits r = record {
-    ahead = omega arith;
-    inside = fits;
-    todo =
-        ap (emitAll task words store (key .constraint) (sinkOf t₀ room₀))
-        (ap (λ l. keyedFrom (wordIn joined) (labelledIn nodes) (task .above) l (chosen key at) list) (labels-next (left .first) (left .second) (left .third) k)
-        ∙ keyed-on (wordIn joined) (labelledIn nodes) (task .above) (left .first) (labelsIn (restOf left)) (chosen key at) list h
-        ∙ sym (tried-flat r (next task nodes joined left key at list) none-left));
-  }
-    where
-      none-left : (u : ℕ) → keep (wordIn joined u) list ≡ [] → next task nodes joined left key at list u ≡ []
-      none-left u e =
-          let z : length (keep (wordIn joined u) list) ≡ 0 = ap length e in
-          keyed-short (wordIn joined) (labelledIn nodes) (task .above) (labelsIn (restOf left)) (chosen key at ++ u ∷ []) (keep (wordIn joined u) list) (omega arith)
+module _ {task : Task} {nodes joined words : List ℕ} {left : Labels} {key : Key} {at : ℕ} {list store : List ℕ} {t₀ : Tally} {room₀ run : List ℕ} where
+  pub begun : (n : ℕ) → task .above < length list → (left .first ≡ 0 → ⊥) → 65536 ≤ length run → (n ≤ 65536) × Paired nodes joined (left .first) list (take n run)
+      → Going task nodes joined words left key at list store t₀ room₀ run n 0 t₀ room₀
+  begun n h k fits r =
+      let few = r .0 in
+      record {
+        few = r .0;
+        whole = rw length-take (omega arith);
+        inside = omega arith;
+        ahead = omega arith;
+        pairs = r .1;
+        bound = 0;
+        reached = sym (from-nothing (r .1));
+        todo =
+            ap (emitAll task words store (key .constraint) (sinkOf t₀ room₀))
+            (ap (λ l. keyedFrom (wordIn joined) (labelledIn nodes) (task .above) l (chosen key at) list) (labels-next (left .first) (left .second) (left .third) k)
+            ∙ keyed-on (wordIn joined) (labelledIn nodes) (task .above) (left .first) (labelsIn (restOf left)) (chosen key at) list h
+            ∙ ap (flatMap (next task nodes joined left key at list)) (sym (keep-high 0 0 (labelledIn nodes (left .first)) (labelled-strict nodes (left .first)) (omega arith))));
+      }
 
-  module _ {n i : ℕ} {t : Tally} {room : List ℕ} (g : Going task nodes joined words left key at list store t₀ room₀ near n i t room) where
-    pub taken : {t′ : Tally} {room′ list′ : List ℕ} {key′ : Key} {left′ : Labels} (u : ℕ) → i < n → u ≡ getD near i 0 → at < 3
-        → key′ ≡ withId key at u → left′ ≡ restOf left → list′ ≡ keep (wordIn joined u) list
-        → Done task nodes joined words left′ key′ (at + 1) list′ store t room t′ room′ → Going task nodes joined words left key at list store t₀ room₀ near n (i + 1) t′ room′
-    unfolding flatMap
-    taken {t′} {room′} {list′} {key′} {left′} u h v b k r l d =
-        let c : key′ .constraint ≡ key .constraint = ap (λ x. x .constraint) k ∙ with-constraint key at u in
-        let ids : chosen key′ (at + 1) ≡ chosen key at ++ u ∷ [] = ap (λ x. chosen x (at + 1)) k ∙ chosen-more key at u b in
-        let e = rw (c, ids, l, r) at (d .all) in
-        let rest = from task nodes joined left key at list (slice (i + 1) n near) in
-        let split : slice i n near ≡ u ∷ slice (i + 1) n near = slice-next i n near h (g .inside) ∙ ap (λ x. x ∷ slice (i + 1) n near) (sym v) in
-        record {
-          ahead = omega arith;
-          inside = g .inside;
-          todo =
-              g .todo ∙ rw split
-              (emitAll-append task words store (key .constraint) (sinkOf t room) (next task nodes joined left key at list u) rest
-              ∙ ap (λ s. emitAll task words store (key .constraint) s rest) (sym e));
-        }
+  module _ {n i : ℕ} {t : Tally} {room : List ℕ} (g : Going task nodes joined words left key at list store t₀ room₀ run n i t room) where
+    pub ascends : Strict (take n run)
+    ascends = g .pairs .ascends
+
+    -- the part that is lent is short
+    pub part-short : (r : ℕ) → r ≤ length (take n run) → length (part run i r) ≤ 65536
+    part-short r h =
+        let w = g .whole in
+        let few = g .few in
+        rw length-take (omega arith)
+
+    module _ (u : ℕ) (h : i < n) (v : u ≡ getD run i 0 / 65536) where
+      here : i < length (take n run)
+      here = let w = g .whole in omega arith
+
+      high : u ≡ getD (take n run) i 0 / 65536
+      high = v ∙ ap (λ x. x / 65536) (sym (getD-take n run i 0 h))
+
+      pub small : nodesIn nodes ≤ 65535 → u < 65535
+      small few = let k = labelled-below nodes (left .first) u (tried (g .pairs) (g .bound) i (g .reached) u here high) in omega arith
+
+      module _ (r : ℕ) (e : r ≡ lower ((getD (take n run) i 0 / 65536 + 1) * 65536) (take n run)) where
+        ends : r ≡ lower ((u + 1) * 65536) (take n run)
+        ends = e ∙ ap (λ x. lower ((x + 1) * 65536) (take n run)) (sym high)
+
+        pub part-kept : {x : List ℕ} → (i < r) × (r ≤ length (take n run)) → x ≡ told joined list u (part run i r) → x ≡ keep (wordIn joined u) list
+        part-kept a q =
+            let w = g .whole in
+            let lo = a .0 in
+            let hi = a .1 in
+            q ∙ ap (told joined list u) (front-part run n i r (omega arith) (omega arith)) ∙ told-part (g .pairs) (g .bound) i (g .reached) u here high r ends
+
+        pub taken : {t′ : Tally} {room′ list′ : List ℕ} {key′ : Key} {left′ : Labels} → at < 3
+            → key′ ≡ withId key at u → left′ ≡ restOf left → list′ ≡ keep (wordIn joined u) list
+            → Done task nodes joined words left′ key′ (at + 1) list′ store t room t′ room′ → Going task nodes joined words left key at list store t₀ room₀ run n r t′ room′
+        taken {t′} {room′} {list′} {key′} {left′} b k l m d =
+            let c : key′ .constraint ≡ key .constraint = ap (λ x. x .constraint) k ∙ with-constraint key at u in
+            let ids : chosen key′ (at + 1) ≡ chosen key at ++ u ∷ [] = ap (λ x. chosen x (at + 1)) k ∙ chosen-more key at u b in
+            let f = rw (c, ids, m, l) at (d .all) in
+            let w = g .whole in
+            let top = lower-within ((u + 1) * 65536) (take n run) in
+            let end = ends in
+            let split = flat-split (next task nodes joined left key at list) (g .bound) u 0 (labelledIn nodes (left .first)) (labelled-strict nodes (left .first))
+            (tried (g .pairs) (g .bound) i (g .reached) u here high) (up (g .pairs) (g .bound) i (g .reached) u here high)
+            (λ x q y z. none-left task nodes joined left key at list x (passed (g .pairs) (g .bound) i (g .reached) u here high x q y z)) in
+            let rest = from task nodes joined left key at list (u + 1) in
+            record {
+              few = g .few;
+              whole = g .whole;
+              inside = g .inside;
+              ahead = omega arith;
+              pairs = g .pairs;
+              bound = u + 1;
+              reached = ends;
+              todo =
+                  g .todo ∙ ap (emitAll task words store (key .constraint) (sinkOf t room)) split
+                  ∙ emitAll-append task words store (key .constraint) (sinkOf t room) (next task nodes joined left key at list u) rest
+                  ∙ ap (λ s. emitAll task words store (key .constraint) s rest) (sym f);
+            }
 
     pub stopped : t .stopped ≡ true → Done task nodes joined words left key at list store t₀ room₀ t room
     stopped h = record { all = sym (g .todo ∙ emitAll-stopped task words store (key .constraint) t room _ h) }
 
     pub ended : n ≤ i → Done task nodes joined words left key at list store t₀ room₀ t room
-    unfolding flatMap emitAll
-    ended h = record { all = sym (g .todo ∙ rw (slice-none i n near h)) }
+    unfolding emitAll
+    ended h =
+        let w = g .whole in
+        record {
+          all = sym (g .todo ∙ ap (emitAll task words store (key .constraint) (sinkOf t room))
+              (flat-none (next task nodes joined left key at list) (g .bound) (labelledIn nodes (left .first))
+              (λ x q y. none-left task nodes joined left key at list x (end-none (g .pairs) (g .bound) i (g .reached) (omega arith) x q y))));
+        }
 
 module _ {task : Task} {nodes joined words : List ℕ} {left : Labels} {key : Key} {at : ℕ} {list store : List ℕ} {t₀ : Tally} {room₀ : List ℕ} where
   -- a list that is too short, and a key that is whole

@@ -45,7 +45,7 @@ sum-none (suc a) b = ne-eqb (suc a + b) 0 (λ e. omega arith) ∙ sym (ap (λ t.
 
 -- ---- a store whose header and records are right
 module _ (s : List ℕ) (header : headerRight s ≡ true) where
-  node-number : nodesIn (nodePart s) ≡ nodeCount s
+  pub node-number : nodesIn (nodePart s) ≡ nodeCount s
   node-number =
       let e = header-ends s header in
       let l : length (nodePart s) ≡ nodeCount s * 8 = length-part s 48 (nodeCount s * 8) (omega arith) in
@@ -69,7 +69,7 @@ module _ (s : List ℕ) (header : headerRight s ≡ true) where
     each-edge i h =
         all-at (edgeRight (nodeCount s) (edgePart s)) 0 (edgesIn (edgePart s)) i (second-holds (nodesRight (nodePart s)) (edgesRight (nodeCount s) (edgePart s)) records) (omega arith) (omega arith)
 
-    both-ends : (i : ℕ) → i < edgesIn (edgePart s) → (fromAt (edgePart s) i < nodeCount s) × (toAt (edgePart s) i < nodeCount s)
+    pub both-ends : (i : ℕ) → i < edgesIn (edgePart s) → (fromAt (edgePart s) i < nodeCount s) × (toAt (edgePart s) i < nodeCount s)
     unfolding edgeRight edgeAlone
     both-ends i h =
         let a = ltb (fromAt (edgePart s) i) (nodeCount s) in

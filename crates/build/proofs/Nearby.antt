@@ -134,7 +134,7 @@ pub labelled-strict : (nodes : List ℕ) (l : ℕ) → Strict (labelledIn nodes 
 unfolding labelledIn
 labelled-strict nodes l = keep-from (hasLabel nodes l) 0 (range 0 (nodesIn nodes)) (range-from 0 (nodesIn nodes))
 
-labelled-has : (nodes : List ℕ) (l z : ℕ) → has z (labelledIn nodes l) ≡ isLabelled nodes l z
+pub labelled-has : (nodes : List ℕ) (l z : ℕ) → has z (labelledIn nodes l) ≡ isLabelled nodes l z
 unfolding labelledIn isLabelled
 labelled-has nodes l z =
     let e : 0 + nodesIn nodes ≡ nodesIn nodes = omega arith in

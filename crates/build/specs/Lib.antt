@@ -1,5 +1,8 @@
 pub mod Packed
 pub mod Near
+pub mod Side
+pub mod Pairs
+pub mod Arrange
 pub mod Keyed
 pub mod Emit
 pub mod Walk
@@ -7,3 +10,4 @@ pub mod Pass
 pub mod Outcome
 pub mod Exceed
 pub mod Useful
+pub mod Total

@@ -1,20 +1,22 @@
 -- A pass over all constraints of a graph.
-use Prim.Native.Nat.{ℕ, _+_, _*_, _≤_}
+use Prim.Native.Nat.{ℕ, _+_, _*_, _≤_, _<_}
 use mathlib.Core.Path.{_≡_}
 use mathlib.Core.Bool.{Bool, cond, true, false, _&&_}
 use mathlib.Core.List.{List, [], _++_, map}
 use lib.Dec.{eqb}
 use lib.ListN.{length}
-use Rattle.rules.specs.Lists.{range, foldFrom, setOf, Strict}
+use Rattle.rules.specs.Lists.{range, foldFrom, setOf, padded, Strict}
 use Rattle.rules.specs.Store.{edgesIn, nodesIn, constraintsIn, constraintAt, groupsAt, nodePart, edgePart, constraintPart, headerRight, draftRight, recordsRight, constraintsRight}
 use Rattle.rules.specs.Words.{part}
-use Rattle.rules.specs.Index.{storeIndex, entryTotal, groupBytes, entryBytes}
+use Rattle.rules.specs.Index.{noId, storeIndex, entryTotal, groupBytes, entryBytes}
 use Rattle.rules.specs.Answers.{same}
 use Rattle.rules.specs.declared.Constraint.{Constraint}
+use Rattle.rules.specs.declared.Key.{Key}
 use Rattle.build.specs.Packed.{backwardAt, EdgesBelow, forwardWords, wordIn, labelledIn}
-use Rattle.build.specs.Near.{Joined}
+use Rattle.build.specs.Side.{Arranged, Climbs, Held, Edged}
 use Rattle.build.specs.Keyed.{Keyed, keyedFrom, labelsLeft}
-use Rattle.build.specs.Emit.{Placed, Sink, sinkOf, emitAll}
+use Rattle.build.specs.Emit.{idsOf, Placed, Sink, sinkOf, emitAll}
+use Rattle.build.specs.Walk.{chosen}
 use Rattle.build.specs.declared.Task.{Task}
 use Rattle.build.specs.declared.Tally.{Tally}
 
@@ -43,16 +45,23 @@ unfoldable pub visitedAll : Task → List ℕ → List ℕ → List ℕ → List
 visitedAll task nodes joined words constraints store s =
     foldFrom (visited task nodes joined words constraints store) 0 (constraintsIn constraints) s
 
--- the rooms for lists (a, b, c, d) and for the nodes that are tried (e, f, g) are long enough
-pub record Ready (task : Task) (nodes joined constraints a b c d e f g store room : List ℕ) : Type 0 where
+-- the keys that begin with these ids and go on with nodes of the labels, `list` being the list of these ids, are dealt with
+unfoldable pub dealt : Task → List ℕ → List ℕ → List ℕ → List ℕ → Key → List ℕ → List ℕ → List ℕ → Sink → Sink
+dealt task nodes joined words labels key ids list store s =
+    emitAll task words store (key .constraint) s (keyedFrom (wordIn joined) (labelledIn nodes) (task .above) labels ids list)
+
+-- a key without ids
+abbrev pub Fresh : Key → Type 0
+Fresh key = padded noId (chosen key 0) ≡ idsOf key
+
+-- the rooms for lists (a, b, c) and for what is tried (d, e) are long enough
+pub record Ready (task : Task) (nodes joined starts edges begins a b c d e store room : List ℕ) : Type 0 where
   pub placed : Placed task (length store) (length room)
-  pub few : nodesIn nodes ≤ 65535
-  pub both : Joined joined
-  pub limited : constraintsIn constraints ≤ 32
-  pub zero : 65536 ≤ length a
-  pub one : (65536 ≤ length b) × (65536 ≤ length e)
-  pub two : (65536 ≤ length c) × (65536 ≤ length f)
-  pub three : (65536 ≤ length d) × (65536 ≤ length g)
+  pub held : Held nodes joined starts
+  pub edged : Edged edges begins
+  pub one : 65536 ≤ length a
+  pub two : (65536 ≤ length b) × (65536 ≤ length d)
+  pub three : (65536 ≤ length c) × (65536 ≤ length e)
 
 -- a store whose sections are there and whose edges, as words, ascend
 pub record Sound (s : List ℕ) : Type 0 where
@@ -82,6 +91,21 @@ pub record Right (s : List ℕ) : Type 0 where
 pub record AtHand (s joined : List ℕ) : Type 0 where
   pub right : Right s
   pub words : joined ≡ joinedSet (edgePart s)
+  pub short : length joined ≤ 524288
+
+-- they are arranged
+pub record Laid (s joined : List ℕ) : Type 0 where
+  pub right : Right s
+  pub arranged : Arranged (nodePart s) joined
+  pub climbs : Climbs joined
+  pub words : setOf joined ≡ joinedSet (edgePart s)
+  pub short : length joined ≤ 524288
+
+-- it is told whether the index has too many entries; where it has not, they are arranged
+pub record Settled (s joined : List ℕ) (many : Bool) : Type 0 where
+  pub over : many ≡ true → 1048576 < entryTotal (storeIndex s)
+  pub hand : many ≡ true → AtHand s joined
+  pub laid : many ≡ false → Laid s joined
 
 -- the number of refusal 2 or 3, 0 for neither
 unfoldable pub recordNumber : List ℕ → ℕ

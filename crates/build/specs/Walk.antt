@@ -5,12 +5,11 @@ use mathlib.Core.Bool.{cond}
 use mathlib.Core.List.{List}
 use lib.Dec.{eqb}
 use lib.ListN.{length, take}
-use Rattle.rules.specs.Lists.{padded, Strict}
-use Rattle.rules.specs.Store.{nodesIn}
+use Rattle.rules.specs.Lists.{padded}
 use Rattle.rules.specs.Index.{noId}
 use Rattle.rules.specs.declared.Key.{Key}
 use Rattle.build.specs.Packed.{wordIn, labelledIn}
-use Rattle.build.specs.Near.{Joined}
+use Rattle.build.specs.Side.{Held, Edged, Listed}
 use Rattle.build.specs.Keyed.{Keyed, keyedFrom, labelsLeft}
 use Rattle.build.specs.Emit.{idsOf, Placed, sinkOf, emitAll}
 use Rattle.build.specs.declared.Task.{Task}
@@ -39,18 +38,18 @@ chosen key at = take at (idsOf key)
 abbrev pub keyedOf : Task → List ℕ → List ℕ → Labels → Key → ℕ → List ℕ → List Keyed
 keyedOf task nodes joined left key at list = keyedFrom (wordIn joined) (labelledIn nodes) (task .above) (labelsIn left) (chosen key at) list
 
--- the rooms for lists (one, two, three) and for the nodes that are tried (a, b, c) are long enough, and the ids that are not chosen are not used
-pub record Fit (task : Task) (nodes joined : List ℕ) (left : Labels) (key : Key) (at : ℕ) (list one two three a b c store room : List ℕ) : Type 0 where
+-- the rooms for lists (one, two) and for what is tried (a, b) are long enough, and the ids that are not chosen are not used
+pub record Fit (task : Task) (nodes joined starts edges begins : List ℕ) (l : ℕ) (left : Labels) (key : Key) (at : ℕ) (list one two a b store room : List ℕ) : Type 0 where
   pub placed : Placed task (length store) (length room)
-  pub few : nodesIn nodes ≤ 65535
-  pub both : Joined joined
+  pub held : Held nodes joined starts
+  pub edged : Edged edges begins
   pub short : length list ≤ 65536
-  pub ascends : Strict list
+  pub listed : Listed nodes l list
   pub level : at + length (labelsIn left) ≤ 3
   pub unused : padded noId (chosen key at) ≡ idsOf key
   pub first : (left .first ≡ 0 → ⊥) → (65536 ≤ length one) × (65536 ≤ length a)
   pub second : (left .second ≡ 0 → ⊥) → (65536 ≤ length two) × (65536 ≤ length b)
-  pub third : (left .third ≡ 0 → ⊥) → (65536 ≤ length three) × (65536 ≤ length c)
+  pub third : left .third ≡ 0
 
 -- those keys with their lists are dealt with, one after another
 pub record Done (task : Task) (nodes joined words : List ℕ) (left : Labels) (key : Key) (at : ℕ) (list store : List ℕ) (t : Tally) (room : List ℕ) (t′ : Tally) (room′ : List ℕ) : Type 0 where

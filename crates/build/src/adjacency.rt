@@ -7,6 +7,8 @@ ghost use Rattle.rules.specs.Lists.{range, keep};
 ghost use Rattle.rules.specs.Store.{edgesIn, nodesIn};
 ghost use Rattle.laws.specs.Searching.{isBelow, lower, standsIn};
 ghost use Rattle.build.specs.Packed.{forwardAt, backwardAt, EdgesBelow, forwardWords, wordIn, hasLabel, labelledIn};
+ghost use Rattle.build.specs.Near.{wordsOf};
+ghost use Rattle.build.specs.Side.{Edged};
 
 // Edge i as a word: where it comes from, then where it goes to.
 pub fn forward_at(edges: &[u8], i: usize) -> u32
@@ -84,8 +86,19 @@ fn stands_in(edges: &[u8], x: u64) -> bool
     wide_at(edges, at) == x
 }
 
-// Whether the word of u and v is among the words of the edges.
-pub fn edge_in(edges: &[u8], u: u32, v: u32) -> bool
+// The edges that come from u, which stand together.
+fn edges_of<'a>(edges: &'a [u8], begins: &[u32], u: u32) -> &'a [u8]
+    requires { ⌜ (u < 65535) × Edged (now edges) (now begins) ⌝ }
+    ensures { λ r. ⌜ forwardWords (now r) ≡ wordsOf (forwardWords (now (edges .entry))) u ⌝ }
+{
+    let start = begins[u as usize] as usize * 8;
+    let end = begins[u as usize + 1] as usize * 8;
+    &edges[start..end]
+}
+
+// Whether the word of u and v is among the words of the edges, of which those from u are looked at.
+pub fn edge_in(edges: &[u8], begins: &[u32], u: u32, v: u32) -> bool
+    requires { ⌜ Edged (now edges) (now begins) ⌝ }
     ensures { λ r. ⌜ r ≡ wordIn (forwardWords (now (edges .entry))) u v ⌝ }
 {
     if 65536 <= u {
@@ -94,7 +107,10 @@ pub fn edge_in(edges: &[u8], u: u32, v: u32) -> bool
     if 65536 <= v {
         return false;
     }
-    stands_in(edges, u as u64 * 65536 + v as u64)
+    if 65535 <= u {
+        return stands_in(edges, u as u64 * 65536 + v as u64);
+    }
+    stands_in(edges_of(edges, begins, u), u as u64 * 65536 + v as u64)
 }
 
 // Whether the word of u and v is among the words.

@@ -8,7 +8,7 @@ ghost use lib.ListN.{length};
 ghost use Rattle.rules.specs.Store.{constraintPart, constraintsRight, groupsAt, headerRight};
 ghost use Rattle.rules.specs.Index.{exceeds, tooMany, storeIndex, entryTotal};
 ghost use Rattle.rules.specs.Answers.{graphNumber};
-ghost use Rattle.build.specs.Pass.{recordNumber, AtHand};
+ghost use Rattle.build.specs.Pass.{recordNumber, Laid};
 ghost use Prim.Native.Nat.{_≤_};
 
 // The number of refusal, 0 for none, and then how many groups and entries the index has.
@@ -18,9 +18,27 @@ pub struct Counted {
     pub entries: u32,
 }
 
+// Whether some list of the graph exceeds its N: the walk goes on only where lists are longer.
+fn some_above(s: &[u8], joined: &[u32]) -> bool
+    requires { ⌜ Laid (now s) (now joined) ⌝ }
+    ensures { λ r. ⌜ r ≡ exceeds (now (s .entry)) ⌝ }
+{
+    let mut none = [0u8; 1];
+    let task = Task {
+        mode: 0,
+        above: 1,
+        groups: 0,
+        entries: 1048576,
+        table: 0,
+        lists: 0,
+    };
+    let t = pass(task, s, joined, s, &mut none);
+    t.stopped
+}
+
 // Counts the groups and entries of the index, and stops where they are too many.
 fn count_all(s: &[u8], joined: &[u32]) -> Tally
-    requires { ⌜ AtHand (now s) (now joined) ⌝ }
+    requires { ⌜ Laid (now s) (now joined) ⌝ }
     ensures { λ r. ⌜ (r .stopped ≡ tooMany (now (s .entry))) × (r .stopped ≡ false → (r .groups ≡ length (storeIndex (now (s .entry)))) × (r .entries ≡ entryTotal (storeIndex (now (s .entry))))) ⌝ }
 {
     let mut none = [0u8; 1];
@@ -57,12 +75,12 @@ pub fn record_number(s: &[u8]) -> u32
     0
 }
 
-// What a store or draft without refusal 1, 2 or 3 gives: 4, 11, or 0 and the counts. Whether a list exceeds its N is told, so that the rooms for asking it do not stand on the stack together with those for counting.
-pub fn count(s: &[u8], joined: &[u32], above: bool) -> Counted
-    requires { ⌜ AtHand (now s) (now joined) × (above ≡ exceeds (now s)) ⌝ }
+// What a store or draft without refusal 1, 2 or 3 gives: 4, 11, or 0 and the counts.
+pub fn count(s: &[u8], joined: &[u32]) -> Counted
+    requires { ⌜ Laid (now s) (now joined) ⌝ }
     ensures { λ r. ⌜ (r .number ≡ graphNumber (now (s .entry))) × (r .number ≡ 0 → (r .groups ≡ length (storeIndex (now (s .entry)))) × (r .entries ≡ entryTotal (storeIndex (now (s .entry))))) ⌝ }
 {
-    if above {
+    if some_above(s, joined) {
         return Counted {
             number: 4,
             groups: 0,

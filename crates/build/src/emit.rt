@@ -10,30 +10,34 @@ ghost use lib.ListN.{length};
 ghost use Rattle.rules.specs.Words.{part, over};
 ghost use Rattle.rules.specs.Answers.{same};
 ghost use Rattle.build.specs.Packed.{forwardWords};
+ghost use Rattle.build.specs.Side.{Edged};
 ghost use Rattle.build.specs.Emit.{bitsOf, dirsOf, idsOf, groupRecord, entryRecord, listRecords};
 ghost use Rattle.build.specs.Emit.{within, counted, groupPlace, entryPlace, Fits, Placed, written, agrees, emit, sinkOf};
 
 // The two bits of key node u and entry v.
-fn bits(edges: &[u8], u: u32, v: u32) -> u8
+fn bits(edges: &[u8], begins: &[u32], u: u32, v: u32) -> u8
+    requires { ⌜ Edged (now edges) (now begins) ⌝ }
     ensures { λ r. ⌜ (r ≡ bitsOf (forwardWords (now (edges .entry))) u v) × (r < 4) ⌝ }
 {
-    if edge_in(edges, u, v) {
-        if edge_in(edges, v, u) {
+    if edge_in(edges, begins, u, v) {
+        if edge_in(edges, begins, v, u) {
             return 3;
         }
         return 1;
     }
-    if edge_in(edges, v, u) {
+    if edge_in(edges, begins, v, u) {
         return 2;
     }
     0
 }
 
 // The directions of entry v.
-fn directions(edges: &[u8], key: Key, v: u32) -> u8
+fn directions(edges: &[u8], begins: &[u32], key: Key, v: u32) -> u8
+    requires { ⌜ Edged (now edges) (now begins) ⌝ }
     ensures { λ r. ⌜ r ≡ dirsOf (forwardWords (now (edges .entry))) (idsOf key) v ⌝ }
 {
-    bits(edges, key.first, v) + 4 * (bits(edges, key.second, v) + 4 * bits(edges, key.third, v))
+    bits(edges, begins, key.first, v)
+        + 4 * (bits(edges, begins, key.second, v) + 4 * bits(edges, begins, key.third, v))
 }
 
 // Writes six words at `at`.
@@ -78,18 +82,18 @@ fn put_directions(room: &mut [u8], at: usize, x: u8)
 }
 
 // Writes an entry record at `at`.
-fn put_entry(edges: &[u8], key: Key, v: u32, room: &mut [u8], at: usize)
-    requires { ⌜ at + 8 ≤ length (now room) ⌝ }
+fn put_entry(edges: &[u8], begins: &[u32], key: Key, v: u32, room: &mut [u8], at: usize)
+    requires { ⌜ (at + 8 ≤ length (now room)) × Edged (now edges) (now begins) ⌝ }
     ensures { λ _. ⌜ now (room .exit) ≡ over (now (room .entry)) at (entryRecord (forwardWords (now (edges .entry))) (idsOf key) v) ⌝ }
 {
-    let x = directions(edges, key, v);
+    let x = directions(edges, begins, key, v);
     words::put_u32(room, at, v);
     put_directions(room, at + 4, x);
 }
 
 // Writes the entries of a list from `at` on.
-fn put_list(edges: &[u8], key: Key, list: &[u32], room: &mut [u8], at: usize)
-    requires { ⌜ at + length (now list) * 8 ≤ length (now room) ⌝ }
+fn put_list(edges: &[u8], begins: &[u32], key: Key, list: &[u32], room: &mut [u8], at: usize)
+    requires { ⌜ (at + length (now list) * 8 ≤ length (now room)) × Edged (now edges) (now begins) ⌝ }
     ensures { λ _. ⌜ now (room .exit) ≡ over (now (room .entry)) at (listRecords (forwardWords (now (edges .entry))) (idsOf key) (now (list .entry))) ⌝ }
 {
     let mut i = 0;
@@ -99,7 +103,7 @@ fn put_list(edges: &[u8], key: Key, list: &[u32], room: &mut [u8], at: usize)
         let here = next;
         i += 1;
         next += 8;
-        put_entry(edges, key, v, room, here);
+        put_entry(edges, begins, key, v, room, here);
     }
 }
 
@@ -133,19 +137,19 @@ fn group_same(store: &[u8], at: usize, key: Key, start: u32, count: u32) -> bool
 }
 
 // Whether an entry record stands at `at`.
-fn entry_same(edges: &[u8], key: Key, v: u32, store: &[u8], at: usize) -> bool
-    requires { ⌜ at + 8 ≤ length (now store) ⌝ }
+fn entry_same(edges: &[u8], begins: &[u32], key: Key, v: u32, store: &[u8], at: usize) -> bool
+    requires { ⌜ (at + 8 ≤ length (now store)) × Edged (now edges) (now begins) ⌝ }
     ensures { λ r. ⌜ r ≡ same (part (now (store .entry)) at (at + 8)) (entryRecord (forwardWords (now (edges .entry))) (idsOf key) v) ⌝ }
 {
     let mut own = [0u8; 8];
-    put_entry(edges, key, v, &mut own, 0);
+    put_entry(edges, begins, key, v, &mut own, 0);
     let end = at + 8;
     bytes_same(&store[at..end], &own)
 }
 
 // Whether the entries of a list stand from `at` on.
-fn list_same(edges: &[u8], key: Key, list: &[u32], store: &[u8], at: usize) -> bool
-    requires { ⌜ at + length (now list) * 8 ≤ length (now store) ⌝ }
+fn list_same(edges: &[u8], begins: &[u32], key: Key, list: &[u32], store: &[u8], at: usize) -> bool
+    requires { ⌜ (at + length (now list) * 8 ≤ length (now store)) × Edged (now edges) (now begins) ⌝ }
     ensures { λ r. ⌜ r ≡ same (part (now (store .entry)) at (at + length (now (list .entry)) * 8)) (listRecords (forwardWords (now (edges .entry))) (idsOf key) (now (list .entry))) ⌝ }
 {
     let mut i = 0;
@@ -155,7 +159,7 @@ fn list_same(edges: &[u8], key: Key, list: &[u32], store: &[u8], at: usize) -> b
         let here = next;
         i += 1;
         next += 8;
-        if !entry_same(edges, key, v, store, here) {
+        if !entry_same(edges, begins, key, v, store, here) {
             return false;
         }
     }
@@ -182,14 +186,22 @@ fn one_more(tally: Tally, n: u32, stopped: bool) -> Tally
 }
 
 // Writes a group and its entries at their places.
-fn write_one(task: Task, edges: &[u8], key: Key, list: &[u32], room: &mut [u8], tally: Tally)
-    requires { ⌜ Fits task tally (length (now list)) (length (now room)) ⌝ }
+fn write_one(
+    task: Task,
+    edges: &[u8],
+    begins: &[u32],
+    key: Key,
+    list: &[u32],
+    room: &mut [u8],
+    tally: Tally,
+)
+    requires { ⌜ Fits task tally (length (now list)) (length (now room)) × Edged (now edges) (now begins) ⌝ }
     ensures { λ _. ⌜ now (room .exit) ≡ written task (forwardWords (now (edges .entry))) (key .constraint) (idsOf key) (now (list .entry)) tally (now (room .entry)) ⌝ }
 {
     let at = task.table + tally.groups as usize * 24;
     put_group(room, at, key, tally.entries, list.len() as u32);
     let start = task.lists + tally.entries as usize * 8;
-    put_list(edges, key, list, room, start);
+    put_list(edges, begins, key, list, room, start);
 }
 
 // Whether the store has the group at its place.
@@ -202,34 +214,52 @@ fn group_agrees(task: Task, key: Key, count: u32, store: &[u8], tally: Tally) ->
 }
 
 // Whether the store has the entries of a list at their place.
-fn list_agrees(task: Task, edges: &[u8], key: Key, list: &[u32], store: &[u8], tally: Tally) -> bool
-    requires { ⌜ entryPlace task tally + length (now list) * 8 ≤ length (now store) ⌝ }
+fn list_agrees(
+    task: Task,
+    edges: &[u8],
+    begins: &[u32],
+    key: Key,
+    list: &[u32],
+    store: &[u8],
+    tally: Tally,
+) -> bool
+    requires { ⌜ (entryPlace task tally + length (now list) * 8 ≤ length (now store)) × Edged (now edges) (now begins) ⌝ }
     ensures { λ r. ⌜ r ≡ same (part (now (store .entry)) (entryPlace task tally) (entryPlace task tally + length (now (list .entry)) * 8)) (listRecords (forwardWords (now (edges .entry))) (idsOf key) (now (list .entry))) ⌝ }
 {
     let start = task.lists + tally.entries as usize * 8;
-    list_same(edges, key, list, store, start)
+    list_same(edges, begins, key, list, store, start)
 }
 
 // Whether the store has the group and its entries at their places.
-fn one_agrees(task: Task, edges: &[u8], key: Key, list: &[u32], store: &[u8], tally: Tally) -> bool
-    requires { ⌜ Fits task tally (length (now list)) (length (now store)) ⌝ }
+fn one_agrees(
+    task: Task,
+    edges: &[u8],
+    begins: &[u32],
+    key: Key,
+    list: &[u32],
+    store: &[u8],
+    tally: Tally,
+) -> bool
+    requires { ⌜ Fits task tally (length (now list)) (length (now store)) × Edged (now edges) (now begins) ⌝ }
     ensures { λ r. ⌜ r ≡ agrees task (forwardWords (now (edges .entry))) (key .constraint) (idsOf key) (now (list .entry)) tally (now (store .entry)) ⌝ }
 {
     let count = list.len() as u32;
-    group_agrees(task, key, count, store, tally) & list_agrees(task, edges, key, list, store, tally)
+    group_agrees(task, key, count, store, tally)
+        & list_agrees(task, edges, begins, key, list, store, tally)
 }
 
 // Does with a key and its list what the task asks.
 pub fn emit_one(
     task: Task,
     edges: &[u8],
+    begins: &[u32],
     key: Key,
     list: &[u32],
     store: &[u8],
     room: &mut [u8],
     tally: Tally,
 ) -> Tally
-    requires { ⌜ (length (now list) ≤ 65536) × Placed task (length (now store)) (length (now room)) ⌝ }
+    requires { ⌜ ((length (now list) ≤ 65536) × Placed task (length (now store)) (length (now room))) × Edged (now edges) (now begins) ⌝ }
     ensures { λ r. ⌜ sinkOf r (now (room .exit)) ≡ emit task (forwardWords (now (edges .entry))) (now (store .entry)) (sinkOf tally (now (room .entry))) (key .constraint) (idsOf key) (now (list .entry)) ⌝ }
 {
     if tally.stopped {
@@ -248,9 +278,9 @@ pub fn emit_one(
     }
     if task.mode == 1 {
         let next = one_more(tally, n, false);
-        write_one(task, edges, key, list, room, tally);
+        write_one(task, edges, begins, key, list, room, tally);
         return next;
     }
-    let agreed = one_agrees(task, edges, key, list, store, tally);
+    let agreed = one_agrees(task, edges, begins, key, list, store, tally);
     one_more(tally, n, !agreed)
 }

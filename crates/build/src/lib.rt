@@ -1,14 +1,20 @@
 // Building and admitting a store: neighbours, keys, lists, groups and entries.
 mod adjacency;
+mod arrange;
 mod count;
 mod emit;
 mod exceed;
 mod joined;
 mod near;
+mod pairs;
 mod pass;
+mod side;
+mod starts;
+mod total;
 mod walk;
 mod write;
 
+use arrange::arrange;
 use count::count;
 use count::record_number;
 use emit::bytes_same;
@@ -16,20 +22,21 @@ use exceed::some_exceeds;
 use joined::own_joined;
 use pass::pass;
 use rules::Built;
+use total::total;
 use write::groups_at;
 use write::put_bytes;
 use write::put_header;
 use write::write_index;
 ghost use mathlib.Core.Path.{_≡_};
 ghost use mathlib.Core.Bool.{true};
-ghost use Prim.Native.Nat.{_+_, _*_, _≤_};
+ghost use Prim.Native.Nat.{_+_, _*_, _≤_, _<_};
 ghost use lib.ListN.{length, take};
 ghost use Rattle.rules.specs.Words.{over};
 ghost use Rattle.rules.specs.Store.{nodeCount, edgeCount, constraintCount, groupsAt, header, draftRight};
 ghost use Rattle.rules.specs.Index.{storeIndex, entryTotal, storeOf};
-ghost use Rattle.rules.specs.Answers.{same, buildOutcome, admitNumber};
+ghost use Rattle.rules.specs.Answers.{same, graphNumber, buildOutcome, admitNumber};
 ghost use Rattle.laws.specs.Header.{Limits};
-ghost use Rattle.build.specs.Pass.{AtHand, Fitting, indexSame};
+ghost use Rattle.build.specs.Pass.{AtHand, Laid, Settled, Fitting, indexSame};
 ghost use Rattle.build.specs.Outcome.{gave};
 
 // What a walk over the keys of a constraint is for: mode 0 counts, 1 writes, any other compares; lists longer than `above`, and how many at most.
@@ -56,9 +63,41 @@ pub struct Labels {
     pub third: u16,
 }
 
+// Arranges the edges of s, which are at hand both ways round.
+fn lay(s: &[u8], joined: &mut [u32])
+    requires { ⌜ AtHand (now s) (now joined) ⌝ }
+    ensures { λ _. ⌜ Laid (now (s .entry)) (now (joined .exit)) ⌝ }
+{
+    arrange(store::node_part(s), joined);
+}
+
+// Whether the index of s has too many entries; where it has not, its edges are arranged.
+// Both are done here, so that their rooms are gone before a pass takes its own.
+fn settle(s: &[u8], joined: &mut [u32]) -> bool
+    requires { ⌜ AtHand (now s) (now joined) ⌝ }
+    ensures { λ r. ⌜ Settled (now (s .entry)) (now (joined .exit)) r ⌝ }
+{
+    if 1048576 < total(s, joined) {
+        return true;
+    }
+    lay(s, joined);
+    false
+}
+
+// The number of refusal 4 or 11 where the index has too many entries: it is not gone through.
+fn number_of_many(s: &[u8], joined: &[u32]) -> u32
+    requires { ⌜ AtHand (now s) (now joined) × (1048576 < entryTotal (storeIndex (now s))) ⌝ }
+    ensures { λ r. ⌜ r ≡ graphNumber (now (s .entry)) ⌝ }
+{
+    if some_exceeds(s, joined) {
+        return 4;
+    }
+    11
+}
+
 // Writes the store of a draft.
 fn write_store(draft: &[u8], joined: &[u32], groups: u32, entries: u32, room: &mut [u8])
-    requires { ⌜ Fitting (now draft) groups entries (length (now room)) × AtHand (now draft) (now joined) ⌝ }
+    requires { ⌜ Fitting (now draft) groups entries (length (now room)) × Laid (now draft) (now joined) ⌝ }
     ensures { λ _. ⌜ now (room .exit) ≡ over (now (room .entry)) 0 (storeOf (now (draft .entry))) ⌝ }
 {
     put_header(draft, groups, entries, room);
@@ -67,12 +106,17 @@ fn write_store(draft: &[u8], joined: &[u32], groups: u32, entries: u32, room: &m
 }
 
 // Builds the store of a draft without refusal 1, 2 or 3, whose edges both ways round are at hand.
-fn build_with(draft: &[u8], joined: &[u32], room: &mut [u8]) -> Built
+fn build_with(draft: &[u8], joined: &mut [u32], room: &mut [u8]) -> Built
     requires { ⌜ (draftRight (now draft) ≡ true) × AtHand (now draft) (now joined) ⌝ }
     ensures { λ r. ⌜ gave (r .number) (r .length) (now (room .exit)) ≡ buildOutcome (now (draft .entry)) (now (room .entry)) ⌝ }
 {
-    let above = some_exceeds(draft, joined);
-    let c = count(draft, joined, above);
+    if settle(draft, joined) {
+        return Built {
+            number: number_of_many(draft, joined),
+            length: 0,
+        };
+    }
+    let c = count(draft, joined);
     if c.number != 0 {
         return Built {
             number: c.number,
@@ -112,7 +156,7 @@ pub fn build(draft: &[u8], room: &mut [u8]) -> Built
     }
     let mut joined = [0u32; 524288];
     let n = own_joined(draft, &mut joined);
-    build_with(draft, &joined[..n], room)
+    build_with(draft, &mut joined[..n], room)
 }
 
 // Whether the header of a store with these counts is the one that s has.
@@ -127,7 +171,7 @@ fn header_same(s: &[u8], groups: u32, entries: u32) -> bool
 
 // Whether the groups and entries of s are those of its index, of which there are so many.
 fn index_same(s: &[u8], joined: &[u32], groups: u32, entries: u32) -> bool
-    requires { ⌜ AtHand (now s) (now joined) × ((groups ≡ length (storeIndex (now s))) × ((entries ≡ entryTotal (storeIndex (now s))) × (groupsAt (now s) + groups * 24 + entries * 8 ≤ length (now s)))) ⌝ }
+    requires { ⌜ Laid (now s) (now joined) × ((groups ≡ length (storeIndex (now s))) × ((entries ≡ entryTotal (storeIndex (now s))) × (groupsAt (now s) + groups * 24 + entries * 8 ≤ length (now s)))) ⌝ }
     ensures { λ r. ⌜ r ≡ indexSame (now (s .entry)) groups entries ⌝ }
 {
     let table = groups_at(s);
@@ -145,12 +189,17 @@ fn index_same(s: &[u8], joined: &[u32], groups: u32, entries: u32) -> bool
 }
 
 // Admits a store without refusal 1, 2 or 3, whose edges both ways round are at hand.
-fn admit_with(s: &[u8], joined: &[u32]) -> u32
+fn admit_with(s: &[u8], joined: &mut [u32]) -> u32
     requires { ⌜ AtHand (now s) (now joined) ⌝ }
     ensures { λ r. ⌜ r ≡ admitNumber (now (s .entry)) ⌝ }
 {
-    let above = some_exceeds(s, joined);
-    let c = count(s, joined, above);
+    if settle(s, joined) {
+        if number_of_many(s, joined) == 4 {
+            return 4;
+        }
+        return 5;
+    }
+    let c = count(s, joined);
     if c.number == 11 {
         return 5;
     }
@@ -179,5 +228,5 @@ pub fn admit(s: &[u8]) -> u32
     }
     let mut joined = [0u32; 524288];
     let n = own_joined(s, &mut joined);
-    admit_with(s, &joined[..n])
+    admit_with(s, &mut joined[..n])
 }

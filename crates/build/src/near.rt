@@ -23,7 +23,7 @@ pub fn words_of(words: &[u32], u: u32) -> &[u32]
 }
 
 // Leaves the low halves of words that are in a list, in their order, at the front of out, and returns how many they are.
-fn shared_near(near: &[u32], list: &[u32], out: &mut [u32]) -> usize
+pub fn shared_near(near: &[u32], list: &[u32], out: &mut [u32]) -> usize
     requires { ⌜ length (now near) ≤ length (now out) ⌝ }
     ensures { λ r. ⌜ (r ≤ length (now (near .entry))) × (take r (now (out .exit)) ≡ keep (λ v. standsIn v (now (list .entry))) (lows (now (near .entry)))) ⌝ }
 {
@@ -56,7 +56,7 @@ pub fn shared(joined: &[u32], list: &[u32], u: u32, out: &mut [u32]) -> usize
 }
 
 // Whether u is a node labelled l.
-fn is_labelled(nodes: &[u8], l: u16, u: u32) -> bool
+pub fn is_labelled(nodes: &[u8], l: u16, u: u32) -> bool
     ensures { λ r. ⌜ r ≡ isLabelled (now (nodes .entry)) l u ⌝ }
 {
     let v = u as usize;

@@ -2,18 +2,26 @@
 use crate::Labels;
 use crate::Tally;
 use crate::Task;
+use crate::adjacency::has_label;
 use crate::adjacency::labelled;
+use crate::side::useful;
+use crate::starts::put_begins;
+use crate::starts::put_starts;
 use crate::walk::walk;
+use crate::walk::with_id;
 use rules::Constraint;
 use rules::Key;
 ghost use mathlib.Core.Path.{_≡_};
-ghost use Prim.Native.Nat.{_<_};
+ghost use mathlib.Core.List.{[], _∷_};
+ghost use Prim.Native.Nat.{_≤_, _<_};
 ghost use lib.ListN.{length};
-ghost use Rattle.rules.specs.Store.{constraintsIn, nodePart, edgePart, constraintPart};
-ghost use Rattle.build.specs.Packed.{forwardWords};
-ghost use Rattle.build.specs.Near.{Joined};
+ghost use Rattle.rules.specs.Lists.{setOf};
+ghost use Rattle.rules.specs.Store.{nodesIn, constraintsIn, nodePart, edgePart, constraintPart};
+ghost use Rattle.build.specs.Packed.{forwardWords, labelledIn};
+ghost use Rattle.build.specs.Side.{sideOf};
 ghost use Rattle.build.specs.Emit.{sinkOf, Placed};
-ghost use Rattle.build.specs.Pass.{taskFor, Ready, visited, visitedAll, nothing, Sound, AtHand, passed};
+ghost use Rattle.build.specs.Walk.{labelsIn, Done};
+ghost use Rattle.build.specs.Pass.{taskFor, Fresh, Ready, dealt, visited, visitedAll, nothing, Laid, passed};
 
 // The task for a constraint: where it asks for lists above N, those above this constraint's.
 fn task_for(task: Task, d: Constraint) -> Task
@@ -30,55 +38,231 @@ fn task_for(task: Task, d: Constraint) -> Task
     }
 }
 
-// Goes through the keys of constraint c.
-fn visit(
+// Goes through the one key of a constraint without labels.
+fn visit_none(
     task: Task,
     nodes: &[u8],
     joined: &[u32],
+    starts: &[u32],
     edges: &[u8],
-    constraints: &[u8],
-    c: usize,
-    zero: &mut [u32],
+    begins: &[u32],
+    l: u16,
+    key: Key,
     one: &mut [u32],
     two: &mut [u32],
     three: &mut [u32],
-    first: &mut [u32],
     second: &mut [u32],
     third: &mut [u32],
     store: &[u8],
     room: &mut [u8],
     tally: Tally,
 ) -> Tally
-    requires { ⌜ (c < constraintsIn (now constraints)) × Ready task (now nodes) (now joined) (now constraints) (now zero) (now one) (now two) (now three) (now first) (now second) (now third) (now store) (now room) ⌝ }
-    ensures { λ r. ⌜ sinkOf r (now (room .exit)) ≡ visited task (now (nodes .entry)) (now (joined .entry)) (forwardWords (now (edges .entry))) (now (constraints .entry)) (now (store .entry)) c (sinkOf tally (now (room .entry))) ⌝ }
+    requires { ⌜ Fresh key × Ready task (now nodes) (now joined) (now starts) (now edges) (now begins) (now one) (now two) (now three) (now second) (now third) (now store) (now room) ⌝ }
+    ensures { λ r. ⌜ sinkOf r (now (room .exit)) ≡ dealt task (now (nodes .entry)) (setOf (now (joined .entry))) (forwardWords (now (edges .entry))) [] key [] (labelledIn (now (nodes .entry)) l) (now (store .entry)) (sinkOf tally (now (room .entry))) ⌝ }
+{
+    let none = Labels {
+        first: 0,
+        second: 0,
+        third: 0,
+    };
+    let k = labelled(nodes, l, one);
+    walk(
+        task,
+        nodes,
+        joined,
+        starts,
+        edges,
+        begins,
+        l,
+        none,
+        key,
+        0,
+        &one[..k],
+        two,
+        three,
+        second,
+        third,
+        store,
+        room,
+        tally,
+    )
+}
+
+// Goes through the keys that begin with u and go on with nodes of the labels left.
+fn visit_from(
+    task: Task,
+    nodes: &[u8],
+    joined: &[u32],
+    starts: &[u32],
+    edges: &[u8],
+    begins: &[u32],
+    l: u16,
+    left: Labels,
+    key: Key,
+    u: u32,
+    one: &mut [u32],
+    two: &mut [u32],
+    three: &mut [u32],
+    second: &mut [u32],
+    third: &mut [u32],
+    store: &[u8],
+    room: &mut [u8],
+    tally: Tally,
+) -> Tally
+    requires { ⌜ ((u < 65535) × ((left .third ≡ 0) × Fresh key)) × Ready task (now nodes) (now joined) (now starts) (now edges) (now begins) (now one) (now two) (now three) (now second) (now third) (now store) (now room) ⌝ }
+    ensures { λ r. ⌜ sinkOf r (now (room .exit)) ≡ dealt task (now (nodes .entry)) (setOf (now (joined .entry))) (forwardWords (now (edges .entry))) (labelsIn left) key (u ∷ []) (sideOf (now (nodes .entry)) (setOf (now (joined .entry))) u l) (now (store .entry)) (sinkOf tally (now (room .entry))) ⌝ }
+{
+    let k = useful(nodes, joined, starts, l, left, u, one);
+    walk(
+        task,
+        nodes,
+        joined,
+        starts,
+        edges,
+        begins,
+        l,
+        left,
+        with_id(key, 0, u),
+        1,
+        &one[..k],
+        two,
+        three,
+        second,
+        third,
+        store,
+        room,
+        tally,
+    )
+}
+
+// Goes through the keys that begin with a node labelled s and go on with nodes of the labels left.
+fn visit_each(
+    task: Task,
+    nodes: &[u8],
+    joined: &[u32],
+    starts: &[u32],
+    edges: &[u8],
+    begins: &[u32],
+    l: u16,
+    s: u16,
+    left: Labels,
+    key: Key,
+    one: &mut [u32],
+    two: &mut [u32],
+    three: &mut [u32],
+    second: &mut [u32],
+    third: &mut [u32],
+    store: &[u8],
+    room: &mut [u8],
+    tally: Tally,
+) -> Tally
+    requires { ⌜ ((left .third ≡ 0) × Fresh key) × Ready task (now nodes) (now joined) (now starts) (now edges) (now begins) (now one) (now two) (now three) (now second) (now third) (now store) (now room) ⌝ }
+    ensures { λ r. ⌜ sinkOf r (now (room .exit)) ≡ dealt task (now (nodes .entry)) (setOf (now (joined .entry))) (forwardWords (now (edges .entry))) (s ∷ labelsIn left) key [] (labelledIn (now (nodes .entry)) l) (now (store .entry)) (sinkOf tally (now (room .entry))) ⌝ }
+{
+    let n = nodes.len() / 8;
+    let mut t = tally;
+    let mut u = 0;
+    while u < n {
+        if t.stopped {
+            return t;
+        }
+        let x = u;
+        u += 1;
+        if has_label(nodes, s, x) {
+            t = visit_from(
+                task,
+                nodes,
+                joined,
+                starts,
+                edges,
+                begins,
+                l,
+                left,
+                key,
+                x as u32,
+                one,
+                two,
+                three,
+                second,
+                third,
+                store,
+                room,
+                t,
+            );
+        }
+    }
+    t
+}
+
+// Goes through the keys of constraint c.
+fn visit(
+    task: Task,
+    nodes: &[u8],
+    joined: &[u32],
+    starts: &[u32],
+    edges: &[u8],
+    begins: &[u32],
+    constraints: &[u8],
+    c: usize,
+    one: &mut [u32],
+    two: &mut [u32],
+    three: &mut [u32],
+    second: &mut [u32],
+    third: &mut [u32],
+    store: &[u8],
+    room: &mut [u8],
+    tally: Tally,
+) -> Tally
+    requires { ⌜ ((c < constraintsIn (now constraints)) × (constraintsIn (now constraints) ≤ 32)) × Ready task (now nodes) (now joined) (now starts) (now edges) (now begins) (now one) (now two) (now three) (now second) (now third) (now store) (now room) ⌝ }
+    ensures { λ r. ⌜ sinkOf r (now (room .exit)) ≡ visited task (now (nodes .entry)) (setOf (now (joined .entry))) (forwardWords (now (edges .entry))) (now (constraints .entry)) (now (store .entry)) c (sinkOf tally (now (room .entry))) ⌝ }
 {
     let d = store::constraint_at(constraints, c);
     let own = task_for(task, d);
-    let k = labelled(nodes, d.label, zero);
-    let left = Labels {
-        first: d.first,
-        second: d.second,
-        third: d.third,
-    };
     let key = Key {
         constraint: c as u32,
         first: 4294967295,
         second: 4294967295,
         third: 4294967295,
     };
-    walk(
+    if d.first == 0 {
+        return visit_none(
+            own,
+            nodes,
+            joined,
+            starts,
+            edges,
+            begins,
+            d.label,
+            key,
+            one,
+            two,
+            three,
+            second,
+            third,
+            store,
+            room,
+            tally,
+        );
+    }
+    let left = Labels {
+        first: d.second,
+        second: d.third,
+        third: 0,
+    };
+    visit_each(
         own,
         nodes,
         joined,
+        starts,
         edges,
+        begins,
+        d.label,
+        d.first,
         left,
         key,
-        0,
-        &zero[..k],
         one,
         two,
         three,
-        first,
         second,
         third,
         store,
@@ -92,21 +276,21 @@ fn visit_all(
     task: Task,
     nodes: &[u8],
     joined: &[u32],
+    starts: &[u32],
     edges: &[u8],
+    begins: &[u32],
     constraints: &[u8],
-    zero: &mut [u32],
     one: &mut [u32],
     two: &mut [u32],
     three: &mut [u32],
-    first: &mut [u32],
     second: &mut [u32],
     third: &mut [u32],
     store: &[u8],
     room: &mut [u8],
     tally: Tally,
 ) -> Tally
-    requires { ⌜ Ready task (now nodes) (now joined) (now constraints) (now zero) (now one) (now two) (now three) (now first) (now second) (now third) (now store) (now room) ⌝ }
-    ensures { λ r. ⌜ sinkOf r (now (room .exit)) ≡ visitedAll task (now (nodes .entry)) (now (joined .entry)) (forwardWords (now (edges .entry))) (now (constraints .entry)) (now (store .entry)) (sinkOf tally (now (room .entry))) ⌝ }
+    requires { ⌜ (constraintsIn (now constraints) ≤ 32) × Ready task (now nodes) (now joined) (now starts) (now edges) (now begins) (now one) (now two) (now three) (now second) (now third) (now store) (now room) ⌝ }
+    ensures { λ r. ⌜ sinkOf r (now (room .exit)) ≡ visitedAll task (now (nodes .entry)) (setOf (now (joined .entry))) (forwardWords (now (edges .entry))) (now (constraints .entry)) (now (store .entry)) (sinkOf tally (now (room .entry))) ⌝ }
 {
     let k = constraints.len() / 12;
     let mut t = tally;
@@ -116,14 +300,14 @@ fn visit_all(
             task,
             nodes,
             joined,
+            starts,
             edges,
+            begins,
             constraints,
             c,
-            zero,
             one,
             two,
             three,
-            first,
             second,
             third,
             store,
@@ -135,21 +319,23 @@ fn visit_all(
     t
 }
 
-// Goes through the keys of every constraint of a graph, whose edges both ways round are at hand as words.
-fn pass_over(task: Task, s: &[u8], joined: &[u32], store: &[u8], room: &mut [u8]) -> Tally
-    requires { ⌜ (Sound (now s) × Joined (now joined)) × Placed task (length (now store)) (length (now room)) ⌝ }
-    ensures { λ r. ⌜ sinkOf r (now (room .exit)) ≡ visitedAll task (nodePart (now (s .entry))) (now (joined .entry)) (forwardWords (edgePart (now (s .entry)))) (constraintPart (now (s .entry))) (now (store .entry)) (sinkOf nothing (now (room .entry))) ⌝ }
+// Counts, writes or compares all groups of the graph of s, whose edges both ways round are arranged.
+pub fn pass(task: Task, s: &[u8], joined: &[u32], store: &[u8], room: &mut [u8]) -> Tally
+    requires { ⌜ Laid (now s) (now joined) × Placed task (length (now store)) (length (now room)) ⌝ }
+    ensures { λ r. ⌜ sinkOf r (now (room .exit)) ≡ passed task (now (s .entry)) (now (store .entry)) (now (room .entry)) ⌝ }
 {
     let nodes = store::node_part(s);
     let edges = store::edge_part(s);
     let constraints = store::constraint_part(s);
-    let mut zero = [0u32; 65536];
+    let mut starts = [0u32; 65536];
+    let mut begins = [0u32; 65536];
     let mut one = [0u32; 65536];
     let mut two = [0u32; 65536];
     let mut three = [0u32; 65536];
-    let mut first = [0u32; 65536];
     let mut second = [0u32; 65536];
     let mut third = [0u32; 65536];
+    put_starts(joined, &mut starts);
+    put_begins(edges, &mut begins);
     let tally = Tally {
         groups: 0,
         entries: 0,
@@ -159,25 +345,17 @@ fn pass_over(task: Task, s: &[u8], joined: &[u32], store: &[u8], room: &mut [u8]
         task,
         nodes,
         joined,
+        &starts,
         edges,
+        &begins,
         constraints,
-        &mut zero,
         &mut one,
         &mut two,
         &mut three,
-        &mut first,
         &mut second,
         &mut third,
         store,
         room,
         tally,
     )
-}
-
-// Counts, writes or compares all groups of the graph of s.
-pub fn pass(task: Task, s: &[u8], joined: &[u32], store: &[u8], room: &mut [u8]) -> Tally
-    requires { ⌜ AtHand (now s) (now joined) × Placed task (length (now store)) (length (now room)) ⌝ }
-    ensures { λ r. ⌜ sinkOf r (now (room .exit)) ≡ passed task (now (s .entry)) (now (store .entry)) (now (room .entry)) ⌝ }
-{
-    pass_over(task, s, joined, store, room)
 }

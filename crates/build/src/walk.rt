@@ -3,16 +3,18 @@ use crate::Labels;
 use crate::Tally;
 use crate::Task;
 use crate::emit::emit_one;
-use crate::near::shared;
-use crate::near::tried;
+use crate::pairs::paired;
+use crate::pairs::part_of;
+use crate::pairs::run_end;
 use rules::Key;
 ghost use mathlib.Core.Path.{_≡_};
 ghost use Prim.Native.Nat.{_+_, _<_};
+ghost use Rattle.rules.specs.Lists.{setOf};
 ghost use Rattle.build.specs.Packed.{forwardWords};
 ghost use Rattle.build.specs.Walk.{withId, restOf, Fit, Done};
 
 // The key with u as its id number at.
-fn with_id(key: Key, at: u32, u: u32) -> Key
+pub fn with_id(key: Key, at: u32, u: u32) -> Key
     ensures { λ r. ⌜ r ≡ withId key at u ⌝ }
 {
     if at == 0 {
@@ -50,36 +52,37 @@ pub fn rest_of(left: Labels) -> Labels
     }
 }
 
-// Goes through the keys that begin with the first `at` ids of `key` and go on with nodes of the labels left; `list` is the list of these ids.
+// Goes through the keys that begin with the first `at` ids of `key` and go on with nodes of the labels left; `list` is the list of these ids, labelled l.
 pub fn walk(
     task: Task,
     nodes: &[u8],
     joined: &[u32],
+    starts: &[u32],
     edges: &[u8],
+    begins: &[u32],
+    l: u16,
     left: Labels,
     key: Key,
     at: u32,
     list: &[u32],
     one: &mut [u32],
     two: &mut [u32],
-    three: &mut [u32],
     first: &mut [u32],
     second: &mut [u32],
-    third: &mut [u32],
     store: &[u8],
     room: &mut [u8],
     tally: Tally,
 ) -> Tally
-    requires { ⌜ Fit task (now nodes) (now joined) left key at (now list) (now one) (now two) (now three) (now first) (now second) (now third) (now store) (now room) ⌝ }
-    ensures { λ r. ⌜ Done task (now (nodes .entry)) (now (joined .entry)) (forwardWords (now (edges .entry))) left key at (now (list .entry)) (now (store .entry)) tally (now (room .entry)) r (now (room .exit)) ⌝ }
+    requires { ⌜ Fit task (now nodes) (now joined) (now starts) (now edges) (now begins) l left key at (now list) (now one) (now two) (now first) (now second) (now store) (now room) ⌝ }
+    ensures { λ r. ⌜ Done task (now (nodes .entry)) (setOf (now (joined .entry))) (forwardWords (now (edges .entry))) left key at (now (list .entry)) (now (store .entry)) tally (now (room .entry)) r (now (room .exit)) ⌝ }
 {
     if list.len() <= task.above as usize {
         return tally;
     }
     if left.first == 0 {
-        return emit_one(task, edges, key, list, store, room, tally);
+        return emit_one(task, edges, begins, key, list, store, room, tally);
     }
-    let n = tried(nodes, joined, list, left.first, first, one);
+    let n = paired(nodes, joined, starts, list, left.first, l, first, one);
     let mut none = [0u32; 1];
     let mut empty = [0u32; 1];
     let mut t = tally;
@@ -88,24 +91,26 @@ pub fn walk(
         if t.stopped {
             return t;
         }
-        let u = first[i];
-        i += 1;
-        let k = shared(joined, list, u, one);
+        let u = first[i] / 65536;
+        let end = run_end(&first[..n], i);
+        let k = part_of(nodes, joined, starts, list, l, &first[i..end], u, one);
+        i = end;
         let next = with_id(key, at, u);
         t = walk(
             task,
             nodes,
             joined,
+            starts,
             edges,
+            begins,
+            l,
             rest_of(left),
             next,
             at + 1,
             &one[..k],
             two,
-            three,
             &mut none,
             second,
-            third,
             &mut empty,
             store,
             room,

@@ -9,7 +9,7 @@ ghost use Rattle.rules.specs.Words.{over};
 ghost use Rattle.rules.specs.Store.{nodeCount, edgeCount, constraintCount, groupsAt, header};
 ghost use Rattle.rules.specs.Index.{storeIndex, entryTotal, groupBytes, entryBytes};
 ghost use Rattle.laws.specs.Header.{Limits};
-ghost use Rattle.build.specs.Pass.{AtHand};
+ghost use Rattle.build.specs.Pass.{Laid};
 
 // Where the groups of a store start.
 pub fn groups_at(s: &[u8]) -> usize
@@ -60,7 +60,7 @@ pub fn put_bytes(room: &mut [u8], at: usize, bytes: &[u8])
 
 // Writes the groups and entries of the index of s.
 pub fn write_index(s: &[u8], joined: &[u32], groups: u32, entries: u32, room: &mut [u8])
-    requires { ⌜ AtHand (now s) (now joined) × ((groups ≡ length (storeIndex (now s))) × ((entries ≡ entryTotal (storeIndex (now s))) × (groupsAt (now s) + groups * 24 + entries * 8 ≤ length (now room)))) ⌝ }
+    requires { ⌜ Laid (now s) (now joined) × ((groups ≡ length (storeIndex (now s))) × ((entries ≡ entryTotal (storeIndex (now s))) × (groupsAt (now s) + groups * 24 + entries * 8 ≤ length (now room)))) ⌝ }
     ensures { λ _. ⌜ now (room .exit) ≡ over (over (now (room .entry)) (groupsAt (now (s .entry))) (groupBytes 0 (storeIndex (now (s .entry))))) (groupsAt (now (s .entry)) + groups * 24) (entryBytes (storeIndex (now (s .entry)))) ⌝ }
 {
     let table = groups_at(s);

@@ -62,6 +62,36 @@ pub fn huge_hub_draft(shares_key: bool) -> Vec<u8> {
     world.draft()
 }
 
+/// A hub joined to so many nodes of labels 1, 2, 3 and 5, and {1,2,3} → (4, 1): building answers 0.
+pub fn uneven_hub_draft(counts: [usize; 4]) -> Vec<u8> {
+    let mut world = World::default();
+    let hub = world.add_node(4, 0);
+    for (label, count) in [1, 2, 3, 5].into_iter().zip(counts) {
+        for _ in 0..count {
+            let node = world.add_node(label, 0);
+            world.edges.push((hub, node));
+        }
+    }
+    world.constraints.push(ConstraintRule::new(&[1, 2, 3], 4, 1));
+    world.draft()
+}
+
+/// 60,000 nodes, each joined to two of 350 nodes of label 1 and to two of label 2: long neighbourhoods that share little.
+pub fn crossed_draft() -> Vec<u8> {
+    let mut world = World::default();
+    (0..700).for_each(|id| _ = world.add_node(1 + (id / 350) as u16, 0));
+    for place in 0..60_000u32 {
+        let node = world.add_node(3, 0);
+        let (one, two) = (place % 350, place / 350 % 350);
+        world.edges.extend([(one, node), ((one + 1 + two) % 350, node)]);
+        world.edges.extend([(node, 350 + two), (node, 350 + (two + 1 + one) % 350)]);
+    }
+    world.edges.sort_unstable();
+    world.edges.dedup();
+    world.constraints.push(ConstraintRule::new(&[1, 2], 3, 65_535));
+    world.draft()
+}
+
 /// 65,535 nodes, 262,144 edges and 32 constraints that hold: building answers 0.
 pub fn full_draft() -> Vec<u8> {
     let mut world = World::default();

@@ -12,8 +12,9 @@ pub use damage::{
     damage_record, make_list_unfit, pattern_of_count, scramble_edges, UNFIT_KINDS,
 };
 pub use limits::{
-    clique_case, exact_index_draft, full_draft, hub_draft, huge_hub_draft, over_limit_stores,
-    thirty_two_case, too_many_entries_draft, too_many_groups_draft, widest_plan_case,
+    clique_case, crossed_draft, exact_index_draft, full_draft, hub_draft, huge_hub_draft,
+    over_limit_stores, thirty_two_case, too_many_entries_draft, too_many_groups_draft,
+    uneven_hub_draft, widest_plan_case,
 };
 pub use panel::{
     panel_draft, panel_empty_patterns, panel_patterns, panel_refused_patterns, PANEL_SIZES,

@@ -7,6 +7,7 @@ use borrow.Author.Tests.{not-false}
 use Rattle.build.proofs.Passing.{new-fits}
 use Rattle.build.proofs.Index.{right-sound}
 use Rattle.build.proofs.Numbers.{early-number, early-right}
+use Rattle.build.proofs.Laying.{front-short}
 use Rattle.build.proofs.Admitted.{admits-not, admits-graph}
 use Rattle.build.proofs.admit.Statement.{statement}
 use Rattle.build.proofs.admit.Tie as tie
@@ -36,10 +37,14 @@ slice-aggregate-admit-with c =
 admit-with-requires : tie.Need-admit-with-requires
 admit-with-requires c κs =
     let header = sym (c .before .before .before .before .before .before .before .header-right .ensures) ∙ not-false _ (c .before .before .before .before .before .before .if1 .left) in
-    record { right = early-right _ _ (c .before .before .before .before .before .record-number .ensures) header (c .before .before .before .before .if2 .left); words = c .before .before .own-joined .ensures .1 }
+    let own = c .before .before .own-joined in
+    record { right = early-right _ _ (c .before .before .before .before .before .record-number .ensures) header (c .before .before .before .before .if2 .left); words = own .ensures .1; short = front-short (own .result) 524288 0 (own .last .1 .0) (own .kept .1 .0) }
+
+returns-3 : tie.Need-returns-3
+returns-3 c = c .before .admit-with .ensures
 
 pub admit-spec : {M : Type 1} → statement M
 admit-spec =
     tie.close
     (tie.spec (λ c κs. search needs) returns record-number-requires returns-2 (λ c. search needs) own-joined-requires (λ c. search needs) slice-aggregate-admit-with
-    admit-with-requires (λ c. c .admit-with .ensures))
+    admit-with-requires returns-3)

@@ -8,6 +8,7 @@ use Rattle.laws.specs.Header.{draft-header}
 use Rattle.build.proofs.Passing.{new-fits}
 use Rattle.build.proofs.Index.{right-sound}
 use Rattle.build.proofs.Numbers.{early-number, early-right}
+use Rattle.build.proofs.Laying.{front-short}
 use Rattle.build.proofs.Built.{gives-one, gives-graph}
 use Rattle.build.proofs.build.Statement.{statement}
 use Rattle.build.proofs.build.Tie as tie
@@ -36,10 +37,11 @@ slice-aggregate-build-with c =
 build-with-requires : tie.Need-build-with-requires
 build-with-requires c κs =
     let right = sym (c .before .before .before .before .before .before .before .before .draft-right .ensures) ∙ not-false _ (c .before .before .before .before .before .before .before .if1 .left) in
-    (right, record { right = early-right _ _ (c .before .before .before .before .before .before .record-number .ensures) (draft-header _ right) (c .before .before .before .before .before .if2 .left); words = c .before .before .before .own-joined .ensures .1 })
+    let own = c .before .before .before .own-joined in
+    (right, record { right = early-right _ _ (c .before .before .before .before .before .before .record-number .ensures) (draft-header _ right) (c .before .before .before .before .before .if2 .left); words = own .ensures .1; short = front-short (own .result) 524288 0 (own .last .1 .0) (own .kept .1 .0) })
 
 returns-3 : tie.Need-returns-3
-returns-3 c = c .before .before .build-with .ensures
+returns-3 c = c .before .before .before .build-with .ensures
 
 pub build-spec : {M : Type 1} → statement M
 build-spec =

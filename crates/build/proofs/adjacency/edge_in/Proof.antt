@@ -3,6 +3,7 @@ use mathlib.Core.Path.{_∙_}
 use native.Mathlib.Omega.{arith}
 use borrow.Author.Needs.{needs}
 use Rattle.build.proofs.Edges.{high-key, high-entry, both-low}
+use Rattle.build.proofs.Beginnings.{among-own}
 use Rattle.build.proofs.adjacency.edge_in.Statement.{statement}
 use Rattle.build.proofs.adjacency.edge_in.Tie as tie
 
@@ -15,5 +16,14 @@ returns-2 c = high-entry _ _ _ (c .before .if1 .left) (c .if2 .taken)
 returns-3 : tie.Need-returns-3
 returns-3 c = c .stands-in .ensures ∙ both-low _ _ _ (omega arith) (omega arith)
 
+returns-4 : tie.Need-returns-4
+returns-4 c =
+    let own = c .before in
+    let pre = own .before .before .before .before .before .before .pre in
+    c .stands-in2 .ensures ∙ among-own pre _ _ (own .edges-of .ensures) (omega arith) (omega arith)
+
 pub edge-in-spec : {M : Type 1} → statement M
-edge-in-spec = tie.close (tie.spec returns returns-2 (λ c. search needs) (λ c. search needs) (λ c κs. search needs) returns-3)
+edge-in-spec =
+    tie.close
+    (tie.spec returns returns-2 (λ c. search needs) (λ c. search needs) (λ c κs. search needs) returns-3 (λ c κs. search needs) (λ c. search needs)
+    (λ c. search needs) (λ c κs. search needs) returns-4)

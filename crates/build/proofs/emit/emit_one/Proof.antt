@@ -35,8 +35,8 @@ write-one-requires : tie.Need-write-one-requires
 write-one-requires c κs =
     let p = c .before .before .before .before .before .before in
     let i = p .before in
-    let s = i .before .before .before .before .before .before in
-    fits _ _ _ _ (i .is-within .ensures) (p .if2 .left) _ (s .pre .0) (s .pre .1 .writes (c .before .before .if4 .taken))
+    let s = i .before .before .before .before .before .before .before in
+    (fits _ _ _ _ (i .is-within .ensures) (p .if2 .left) _ (s .pre .0 .0) (s .pre .0 .1 .writes (c .before .before .if4 .taken)), s .pre .1)
 
 one-more-requires-2 : tie.Need-one-more-requires-2
 one-more-requires-2 c κs =
@@ -60,8 +60,8 @@ one-agrees-requires : tie.Need-one-agrees-requires
 one-agrees-requires c κs =
     let p = c .before .before .before .before in
     let i = p .before in
-    let s = i .before .before .before .before .before .before in
-    fits _ _ _ _ (i .is-within .ensures) (p .if2 .left) _ (s .pre .0) (s .pre .1 .reads (c .before .before .if3 .left) (c .if4 .left))
+    let s = i .before .before .before .before .before .before .before in
+    (fits _ _ _ _ (i .is-within .ensures) (p .if2 .left) _ (s .pre .0 .0) (s .pre .0 .1 .reads (c .before .before .if3 .left) (c .if4 .left)), s .pre .1)
 
 one-more-requires-3 : tie.Need-one-more-requires-3
 one-more-requires-3 c κs =

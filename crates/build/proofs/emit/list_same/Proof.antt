@@ -15,12 +15,12 @@ use Rattle.build.proofs.emit.list_same.Statement.{statement}
 use Rattle.build.proofs.emit.list_same.Tie as tie
 
 abbrev Inv-loop : tie.InvT-loop
-Inv-loop edges key list store at i₀ next₀ i next =
+Inv-loop edges begins key list store at i₀ next₀ i next =
     ((i ≤ length list) × (next + (length list - i) * 8 ≤ length store))
     × Entries (forwardWords edges) (idsOf key) store (same (part store at (at + length list * 8)) (listRecords (forwardWords edges) (idsOf key) list)) next (drop i list)
 
 abbrev μ-loop : tie.MeasureT-loop
-μ-loop edges key list store at i₀ next₀ i next = length list - i
+μ-loop edges begins key list store at i₀ next₀ i next = length list - i
 
 loop-again : tie.Need-loop-again Inv-loop μ-loop
 loop-again c =
@@ -40,5 +40,5 @@ returns-2 c = entries-done (rw (drop-of-length-le _ {i = c .before .loop .i} (c 
 pub list-same-spec : {M : Type 1} → statement M
 list-same-spec =
     tie.close
-    (tie.spec Inv-loop μ-loop (λ c. ((omega arith, omega arith), record { fits = c .before .before .before .pre; rest = refl })) (λ c. search needs) (λ c. search needs)
+    (tie.spec Inv-loop μ-loop (λ c. ((omega arith, omega arith), record { fits = c .before .before .before .before .pre .0; rest = refl })) (λ c. search needs) (λ c. search needs)
     (λ c. search needs) (λ c. search needs) (λ c κs. search needs) returns (λ c. search needs) loop-again returns-2)

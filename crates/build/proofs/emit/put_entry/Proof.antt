@@ -22,8 +22,8 @@ same-length c = search needs
 returns : tie.Need-returns
 returns c =
     let wrote = c .before .before .before .before .before .before in
-    let s = wrote .before .before .before .before .before in
-    one-entry _ _ _ _ _ _ _ _ (s .pre) (wrote .before .before .directions .ensures) (wrote .put-u32 .ensures) (c .before .before .put-directions .ensures)
+    let s = wrote .before .before .before .before .before .before in
+    one-entry _ _ _ _ _ _ _ _ (s .pre .0) (wrote .before .before .directions .ensures) (wrote .put-u32 .ensures) (c .before .before .put-directions .ensures)
 
 pub put-entry-spec : {M : Type 1} → statement M
 put-entry-spec =

@@ -11,11 +11,11 @@ use Rattle.build.proofs.emit.put_list.Statement.{statement}
 use Rattle.build.proofs.emit.put_list.Tie as tie
 
 abbrev Inv-loop : tie.InvT-loop
-Inv-loop edges key list room₀ at i₀ next₀ room i next =
+Inv-loop edges begins key list room₀ at i₀ next₀ room i next =
     ((i ≤ length list) × (next + (length list - i) * 8 ≤ length room)) × Writing (forwardWords edges) (idsOf key) room₀ at list room next (drop i list)
 
 abbrev μ-loop : tie.MeasureT-loop
-μ-loop edges key list room₀ at i₀ next₀ room i next = length list - i
+μ-loop edges begins key list room₀ at i₀ next₀ room i next = length list - i
 
 loop-again : tie.Need-loop-again Inv-loop μ-loop
 loop-again c =
@@ -32,5 +32,5 @@ returns c = ended (rw (drop-of-length-le _ {i = c .before .loop .i} (c .loop-tes
 pub put-list-spec : {M : Type 1} → statement M
 put-list-spec =
     tie.close
-    (tie.spec Inv-loop μ-loop (λ c. ((omega arith, omega arith), begun _ _ _ _ _ (c .before .before .before .pre))) (λ c. search needs) (λ c. search needs)
+    (tie.spec Inv-loop μ-loop (λ c. ((omega arith, omega arith), begun _ _ _ _ _ (c .before .before .before .before .pre .0))) (λ c. search needs) (λ c. search needs)
     (λ c. search needs) (λ c. search needs) (λ c κs. search needs) (λ c. search needs) loop-again (λ c. c .before .loop .inv .1 .same) returns)

@@ -1,11 +1,10 @@
 -- `build::pass::visit` meets its contract. Assumes nothing.
 use borrow.Author.Needs.{needs}
-use native.Mathlib.Omega.{arith}
+use Rattle.build.proofs.Visiting.{fresh-key, ready-own, visited-none, visited-each}
 use mathlib.Core.Path.{refl}
-use lib.ListN.{length-take}
-use Rattle.build.proofs.Passing.{fit-start, visit-done}
 use Rattle.build.proofs.pass.visit.Statement.{statement}
 use Rattle.build.proofs.pass.visit.Tie as tie
+use Rattle.store.proofs.constraint_at.Reads as constraint-at-reads
 
 constraint-at-requires : tie.Need-constraint-at-requires
 constraint-at-requires c κs = search needs
@@ -13,28 +12,11 @@ constraint-at-requires c κs = search needs
 task-for-requires : tie.Need-task-for-requires
 task-for-requires c κs = search needs
 
-labelled-requires : tie.Need-labelled-requires
-labelled-requires c κs = search needs
+cast-t21 : tie.Need-cast-t21
+cast-t21 c = search needs
 
-cast-t24 : tie.Need-cast-t24
-cast-t24 c = search needs
-
-slice-reshare-prefix-walk : tie.Need-slice-reshare-prefix-walk
-slice-reshare-prefix-walk c = search needs
-
-slice-aggregate-walk : tie.Need-slice-aggregate-walk
-slice-aggregate-walk c =
-    let s = c .before .before .before .before .before .before .before .before .before .before .before .before .before .before .before .before .before .before .before .before in
-    let few = s .pre .1 .few in
-    let long = s .pre .1 .zero in
-    let k = c .before .before .before .labelled .ensures .0 in
-    let kept = c .before .before .before .labelled .kept .1 .1 .0 in
-    simp length-take (omega arith)
-
-walk-requires : tie.Need-walk-requires
-walk-requires c κs =
-    let s = c .before .before .before .before .before .before .before .before .before .before .before .before .before .before .before .before .before .before .before .before .before .before .before .before .before .before .before in
-    fit-start (s .pre .1) _ _ (c .before .before .before .before .before .before .before .before .before .before .before .before .task-for .ensures) (c .before .before .before .before .before .before .before .before .before .before .labelled .ensures .1) (refl, refl) (refl, refl) (refl, refl) refl
+visit-none-requires : tie.Need-visit-none-requires
+visit-none-requires c κs = (fresh-key 0, ready-own _ (c .before .before .before .before .before .before .before .before .task-for .ensures) (c .before .before .before .before .before .before .before .before .before .before .before .before .before .before .before .before .before .before .before .before .before .before .before .pre .1))
 
 same-length : tie.Need-same-length
 same-length c = search needs
@@ -54,15 +36,32 @@ same-length-5 c = search needs
 same-length-6 : tie.Need-same-length-6
 same-length-6 c = search needs
 
+returns : tie.Need-returns
+returns c = visited-none _ _ _ _ _ _ _ _ _ _ (c .before .before .before .before .before .before .before .before .before .before .before .before .before .before .before .before .before .before .before .before .before .before .constraint-at .ensures) (c .before .before .before .before .before .before .before .before .before .before .before .before .before .before .before .before .before .before .before .before .before .task-for .ensures) refl (c .before .before .before .before .before .before .before .before .before .before .before .before .before .before .before .before .before .before .before .if1 .taken) (c .before .before .before .before .before .before .before .before .before .before .before .before .visit-none .ensures)
+
+visit-each-requires : tie.Need-visit-each-requires
+visit-each-requires c κs = ((refl, fresh-key 0), ready-own _ (c .before .before .before .before .before .before .before .before .task-for .ensures) (c .before .before .before .before .before .before .before .before .before .before .before .before .before .before .before .before .before .before .before .before .before .before .before .pre .1))
+
 same-length-7 : tie.Need-same-length-7
 same-length-7 c = search needs
 
 same-length-8 : tie.Need-same-length-8
 same-length-8 c = search needs
 
-returns : tie.Need-returns
-returns c =
-    visit-done _ _ _ _ _ _ _ _ _ _ _ (c .before .before .before .before .before .before .before .before .before .before .before .before .before .before .before .before .before .before .before .before .before .before .before .before .before .before .before .before .constraint-at .ensures) (c .before .before .before .before .before .before .before .before .before .before .before .before .before .before .before .before .before .before .before .before .before .before .before .before .before .before .before .task-for .ensures) (c .before .before .before .before .before .before .before .before .before .before .before .before .before .before .before .before .before .before .before .before .before .before .before .before .before .labelled .ensures .1) (c .before .before .before .before .before .before .before .before .before .before .before .before .before .before .walk .ensures)
+same-length-9 : tie.Need-same-length-9
+same-length-9 c = search needs
+
+same-length-10 : tie.Need-same-length-10
+same-length-10 c = search needs
+
+same-length-11 : tie.Need-same-length-11
+same-length-11 c = search needs
+
+same-length-12 : tie.Need-same-length-12
+same-length-12 c = search needs
+
+returns-2 : tie.Need-returns-2
+returns-2 c = visited-each _ _ _ _ _ _ _ _ _ _ (c .before .before .before .before .before .before .before .before .before .before .before .before .before .before .before .before .before .before .before .before .before .before .constraint-at .ensures) (c .before .before .before .before .before .before .before .before .before .before .before .before .before .before .before .before .before .before .before .before .before .task-for .ensures) refl (c .before .before .before .before .before .before .before .before .before .before .before .before .before .before .before .before .before .before .before .if1 .left) refl (c .before .before .before .before .before .before .before .before .before .before .before .before .visit-each .ensures)
 
 pub visit-spec : {M : Type 1} → statement M
 visit-spec =
@@ -70,17 +69,20 @@ visit-spec =
     (tie.spec
     constraint-at-requires
     task-for-requires
-    labelled-requires
-    cast-t24
-    slice-reshare-prefix-walk
-    slice-aggregate-walk
-    walk-requires
+    cast-t21
+    visit-none-requires
     same-length
     same-length-2
     same-length-3
     same-length-4
     same-length-5
     same-length-6
+    returns
+    visit-each-requires
     same-length-7
     same-length-8
-    returns)
+    same-length-9
+    same-length-10
+    same-length-11
+    same-length-12
+    returns-2)

@@ -1,0 +1,67 @@
+-- Words arranged so that the neighbours of one node with one label stand together, and where the words of each node start.
+use Prim.Native.Nat.{ℕ, _+_, _*_, _/_, _%_, _≤_, _<_}
+use mathlib.Core.Path.{_≡_}
+use mathlib.Core.Bool.{Bool, true, _&&_}
+use mathlib.Core.List.{List, map}
+use lib.Dec.{eqb, ltb}
+use lib.ListN.{length, getD}
+use Rattle.rules.specs.Lists.{keep, has, setOf, Strict}
+use Rattle.rules.specs.Store.{nodesIn, labelAt}
+use Rattle.build.specs.Packed.{forwardWords, wordIn, labelledIn}
+use Rattle.build.specs.Near.{isLabelled, Joined}
+
+-- the place of a word: its node, then the label and the id of its neighbour
+unfoldable pub placeOf : List ℕ → ℕ → ℕ
+placeOf nodes w = w / 65536 * 4294967296 + labelAt nodes (w % 65536) * 65536 + w % 65536
+
+abbrev pub places : List ℕ → List ℕ → List ℕ
+places nodes words = map (placeOf nodes) words
+
+-- words whose places ascend, with nodes in their low halves
+pub record Arranged (nodes words : List ℕ) : Type 0 where
+  pub ascends : Strict (places nodes words)
+  pub inside : (w : ℕ) → has w words ≡ true → w % 65536 < nodesIn nodes
+
+-- the words of v and its neighbours labelled l
+unfoldable pub sideIn : List ℕ → List ℕ → ℕ → ℕ → List ℕ
+sideIn nodes words v l = keep (λ w. eqb (w / 65536) v && eqb (labelAt nodes (w % 65536)) l) words
+
+-- those neighbours, ascending
+abbrev pub sideOf : List ℕ → List ℕ → ℕ → ℕ → List ℕ
+sideOf nodes joined v l = keep (wordIn joined v) (labelledIn nodes l)
+
+-- how many words have a node below v in their high half
+unfoldable pub startOf : List ℕ → ℕ → ℕ
+startOf words v = length (keep (λ w. ltb (w / 65536) v) words)
+
+-- high halves never descend
+pub record Climbs (words : List ℕ) : Type 0 where
+  pub up : (i j : ℕ) → i ≤ j → j < length words → getD words i 0 / 65536 ≤ getD words j 0 / 65536
+
+-- it is at hand where the words of each node start
+pub record Begun (words starts : List ℕ) : Type 0 where
+  pub climbs : Climbs words
+  pub long : 65536 ≤ length starts
+  pub at : (v : ℕ) → v < 65536 → getD starts v 0 ≡ startOf words v
+
+-- x is written from place `from` to before `to`, and what stands before is as it was
+pub record Filled (from to x : ℕ) (before after : List ℕ) : Type 0 where
+  pub front : (i : ℕ) → i < from → getD after i 0 ≡ getD before i 0
+  pub run : (i : ℕ) → from ≤ i → i < to → getD after i 0 ≡ x
+
+-- edges that ascend, and where those of each node start
+pub record Edged (edges begins : List ℕ) : Type 0 where
+  pub ascends : Strict (forwardWords edges)
+  pub begun : Begun (forwardWords edges) begins
+
+-- the edges both ways round, arranged
+pub record Held (nodes joined starts : List ℕ) : Type 0 where
+  pub few : nodesIn nodes ≤ 65535
+  pub arranged : Arranged nodes joined
+  pub both : Joined (setOf joined)
+  pub begun : Begun joined starts
+
+-- an ascending list of nodes labelled l
+pub record Listed (nodes : List ℕ) (l : ℕ) (list : List ℕ) : Type 0 where
+  pub ascends : Strict list
+  pub labelled : (v : ℕ) → has v list ≡ true → isLabelled nodes l v ≡ true
