@@ -1,2 +1,4 @@
+mod Ascending
 mod Merged
+mod Settling
 mod Keeping
