@@ -47,7 +47,7 @@ enum bahrufaz_number {
 };
 
 /* Writes the store of a draft into the room. Results: its length in bytes.
- * A store is at most 17,301,928 bytes long. Stack: under 4 MiB (3,935,992 bytes were measured at
+ * A store is at most 17,301,928 bytes long. Stack: under 4 MiB (3,935,640 bytes were measured at
  * most, over small drafts, feed panels and worlds at the limits).
  * Time follows nodes, edges and entries, times a logarithm, also round a node with very many
  * neighbours: 0.2 s at most were measured over feed panels of 60,000 nodes and worlds at the limits.

@@ -17,16 +17,18 @@ use Rattle.rules.specs.Index.{groupBytes, entryBytes, storeIndex, entryTotal, s
 use Rattle.rules.specs.Answers.{same, graphNumber, admitNumber}
 use Rattle.laws.specs.Cases.{first-holds, second-holds}
 use Rattle.laws.specs.Header.{header-ends, header-long}
-use Rattle.build.specs.Packed.{forwardWords}
-use Rattle.build.specs.Emit.{sinkOf, Placed}
-use Rattle.build.specs.Pass.{Right, joinedSet, indexSame, passed}
-use Rattle.build.specs.declared.Task.{Task}
-use Rattle.build.specs.declared.Tally.{Tally}
-use Rattle.build.proofs.Records.{over-all}
-use Rattle.build.proofs.Comparing.{same-append}
-use Rattle.build.proofs.Items.{short, total, groupFor}
-use Rattle.build.proofs.Whole.{compare-all, part-add, length-part}
-use Rattle.build.proofs.Index.{itemsOf, passed-items, index-items, index-length, index-total}
+use Rattle.joined.specs.Packed.{forwardWords}
+use Rattle.joined.specs.Sound.{joinedSet}
+use Rattle.keys.specs.Emit.{sinkOf, Placed}
+use Rattle.keys.specs.Pass.{Right, passed}
+use Rattle.keys.specs.declared.Task.{Task}
+use Rattle.keys.specs.declared.Tally.{Tally}
+use Rattle.build.specs.Steps.{indexSame}
+use Rattle.keys.proofs.Records.{over-all}
+use Rattle.keys.proofs.Comparing.{same-append}
+use Rattle.keys.proofs.Items.{short, total, groupFor}
+use Rattle.keys.proofs.Whole.{compare-all, part-add, length-part}
+use Rattle.keys.proofs.Index.{itemsOf, passed-items, index-items, index-length, index-total}
 use Rattle.build.proofs.Written.{all-short, told, index-lengths}
 use Rattle.build.proofs.Numbers.{none-few}
 

@@ -9,7 +9,8 @@ use Rattle.rules.specs.Store.{draftRight, groupsAt}
 use Rattle.rules.specs.Index.{storeIndex, entryTotal, storeOf}
 use Rattle.rules.specs.Answers.{graphNumber}
 use Rattle.laws.specs.Header.{draft-header, header-limits}
-use Rattle.build.specs.Pass.{Right, Fitting}
+use Rattle.keys.specs.Pass.{Right}
+use Rattle.build.specs.Steps.{Fitting}
 use Rattle.build.proofs.Numbers.{none-few}
 use Rattle.build.proofs.Written.{index-lengths}
 use Rattle.build.proofs.Built.{store-length, draft-ends}

@@ -14,10 +14,12 @@ use Rattle.rules.specs.Index.{exceeds, tooMany, storeIndex, entryTotal}
 use Rattle.rules.specs.Answers.{graphNumber}
 use Rattle.laws.specs.Sets.{has-set, set-strict}
 use Rattle.laws.specs.Members.{has-append}
-use Rattle.build.specs.Packed.{forwardAt, backwardAt, forwardWords}
-use Rattle.build.specs.Side.{Arranged, Climbs}
-use Rattle.build.specs.Pass.{joinedSet, Right, AtHand, Laid}
-use Rattle.build.proofs.Index.{node-number, both-ends, right-sound}
+use Rattle.joined.specs.Packed.{forwardAt, backwardAt, forwardWords}
+use Rattle.joined.specs.Starts.{Climbs}
+use Rattle.joined.specs.Sound.{joinedSet}
+use Rattle.sides.specs.Side.{Arranged}
+use Rattle.keys.specs.Pass.{Right, AtHand, Laid}
+use Rattle.keys.proofs.Index.{node-number, both-ends, right-sound}
 use Rattle.build.proofs.Numbers.{gives-four, gives-eleven}
 
 -- ---- low halves

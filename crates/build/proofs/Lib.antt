@@ -1,35 +1,7 @@
-pub mod Filling
-pub mod Kept
-pub mod Ranges
-pub mod Edges
-pub mod Starting
-pub mod Beginnings
-pub mod Joining
-pub mod Records
-pub mod Comparing
-pub mod Emitting
-pub mod Nearby
-pub mod Turning
-pub mod Going
-pub mod Passing
-pub mod Groups
-pub mod Sifting
-pub mod Exceeding
-pub mod Useless
-pub mod Visiting
-pub mod Sides
-pub mod Sought
-pub mod Arranging
-pub mod Pairing
-pub mod Graphs
-pub mod Items
-pub mod Whole
-pub mod Index
-pub mod Totals
-pub mod Exceeds
-pub mod Numbers
-pub mod Laying
-pub mod Written
-pub mod Built
-pub mod Fitted
-pub mod Admitted
+mod Totals
+mod Numbers
+mod Laying
+mod Written
+mod Built
+mod Fitted
+mod Admitted

@@ -10,7 +10,8 @@ use borrow.Author.Tests.{not-true, not-false, ltb-false}
 use Rattle.rules.specs.Store.{headerRight, recordsRight, constraintsRight, constraintPart}
 use Rattle.rules.specs.Index.{exceeds, tooMany, storeIndex, entryTotal}
 use Rattle.rules.specs.Answers.{graphNumber}
-use Rattle.build.specs.Pass.{Right, recordNumber}
+use Rattle.keys.specs.Pass.{Right}
+use Rattle.build.specs.Steps.{recordNumber}
 
 graphBy : Bool → Bool → Bool → Bool → ℕ
 graphBy a b c d = elim a [ true ↦ elim b [ true ↦ elim c [ true ↦ 4 | false ↦ elim d [ true ↦ 11 | false ↦ 0 ] ] | false ↦ 3 ] | false ↦ 2 ]

@@ -14,18 +14,20 @@ use Rattle.rules.specs.Store.{edgePart, nodePart, constraintPart, constraintsIn
 use Rattle.rules.specs.Graph.{storeGraph, graphOf}
 use Rattle.rules.specs.Index.{groupBytes, entryBytes, storeIndex, entryTotal}
 use Rattle.laws.specs.Keeping.{all-flat}
-use Rattle.build.specs.Packed.{forwardWords, wordIn, labelledIn}
-use Rattle.build.specs.Keyed.{Keyed, keyedFrom, labelsLeft}
-use Rattle.build.specs.Emit.{sinkOf, Placed}
-use Rattle.build.specs.Pass.{keyedBy, aboveFor, joinedSet, Right, passed}
-use Rattle.build.specs.declared.Task.{Task}
-use Rattle.build.specs.declared.Tally.{Tally}
-use Rattle.build.proofs.Going.{keyed-short, keyed-here, keyed-on}
-use Rattle.build.proofs.Passing.{labels-few}
-use Rattle.build.proofs.Graphs.{graph-edges}
-use Rattle.build.proofs.Items.{item, short, total, itemsFrom, Told, groupFor, length-groups, length-entries}
-use Rattle.build.proofs.Whole.{write-fits}
-use Rattle.build.proofs.Index.{itemsOf, passed-items, index-items, index-length, index-total, right-sound}
+use Rattle.joined.specs.Packed.{forwardWords, wordIn, labelledIn}
+use Rattle.joined.specs.Sound.{joinedSet}
+use Rattle.sides.specs.Left.{labelsLeft}
+use Rattle.keys.specs.Keyed.{Keyed, keyedFrom}
+use Rattle.keys.specs.Emit.{sinkOf, Placed}
+use Rattle.keys.specs.Pass.{keyedBy, aboveFor, Right, passed}
+use Rattle.keys.specs.declared.Task.{Task}
+use Rattle.keys.specs.declared.Tally.{Tally}
+use Rattle.keys.proofs.Going.{keyed-short, keyed-here, keyed-on}
+use Rattle.keys.proofs.Passing.{labels-few}
+use Rattle.keys.proofs.Graphs.{graph-edges}
+use Rattle.keys.proofs.Items.{item, short, total, itemsFrom, Told, groupFor, length-groups, length-entries}
+use Rattle.keys.proofs.Whole.{write-fits}
+use Rattle.keys.proofs.Index.{itemsOf, passed-items, index-items, index-length, index-total, right-sound}
 
 -- no key has more than three ids
 abbrev few : Keyed → Bool

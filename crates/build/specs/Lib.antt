@@ -1,13 +1,3 @@
-pub mod Packed
-pub mod Near
-pub mod Side
-pub mod Pairs
-pub mod Arrange
-pub mod Keyed
-pub mod Emit
-pub mod Walk
-pub mod Pass
+pub mod Steps
 pub mod Outcome
-pub mod Exceed
-pub mod Useful
 pub mod Total

@@ -1,14 +1,14 @@
 // Refusals 2 and 3; refusals 4 and 11, and how many groups and entries the index has.
-use crate::Tally;
-use crate::Task;
-use crate::pass::pass;
+use keys::Tally;
+use keys::Task;
 ghost use mathlib.Core.Path.{_≡_};
 ghost use mathlib.Core.Bool.{true, false};
 ghost use lib.ListN.{length};
 ghost use Rattle.rules.specs.Store.{constraintPart, constraintsRight, groupsAt, headerRight};
 ghost use Rattle.rules.specs.Index.{exceeds, tooMany, storeIndex, entryTotal};
 ghost use Rattle.rules.specs.Answers.{graphNumber};
-ghost use Rattle.build.specs.Pass.{recordNumber, Laid};
+ghost use Rattle.keys.specs.Pass.{Laid};
+ghost use Rattle.build.specs.Steps.{recordNumber};
 ghost use Prim.Native.Nat.{_≤_};
 
 // The number of refusal, 0 for none, and then how many groups and entries the index has.
@@ -32,7 +32,7 @@ fn some_above(s: &[u8], joined: &[u32]) -> bool
         table: 0,
         lists: 0,
     };
-    let t = pass(task, s, joined, s, &mut none);
+    let t = pass::pass(task, s, joined, s, &mut none);
     t.stopped
 }
 
@@ -50,7 +50,7 @@ fn count_all(s: &[u8], joined: &[u32]) -> Tally
         table: 0,
         lists: 0,
     };
-    pass(task, s, joined, s, &mut none)
+    pass::pass(task, s, joined, s, &mut none)
 }
 
 // Whether the constraints of a store are right.

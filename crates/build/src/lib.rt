@@ -1,26 +1,11 @@
-// Building and admitting a store: neighbours, keys, lists, groups and entries.
-mod adjacency;
-mod arrange;
+// Building and admitting a store: its index counted, written or compared.
 mod count;
-mod emit;
-mod exceed;
-mod joined;
-mod near;
-mod pairs;
-mod pass;
-mod side;
-mod starts;
 mod total;
-mod walk;
 mod write;
 
-use arrange::arrange;
 use count::count;
 use count::record_number;
-use emit::bytes_same;
-use exceed::some_exceeds;
-use joined::own_joined;
-use pass::pass;
+use keys::Task;
 use rules::Built;
 use total::total;
 use write::groups_at;
@@ -36,39 +21,16 @@ ghost use Rattle.rules.specs.Store.{nodeCount, edgeCount, constraintCount, grou
 ghost use Rattle.rules.specs.Index.{storeIndex, entryTotal, storeOf};
 ghost use Rattle.rules.specs.Answers.{same, graphNumber, buildOutcome, admitNumber};
 ghost use Rattle.laws.specs.Header.{Limits};
-ghost use Rattle.build.specs.Pass.{AtHand, Laid, Settled, Fitting, indexSame};
+ghost use Rattle.keys.specs.Pass.{AtHand, Laid};
+ghost use Rattle.build.specs.Steps.{Settled, Fitting, indexSame};
 ghost use Rattle.build.specs.Outcome.{gave};
-
-// What a walk over the keys of a constraint is for: mode 0 counts, 1 writes, any other compares; lists longer than `above`, and how many at most.
-pub struct Task {
-    pub mode: u32,
-    pub above: u32,
-    pub groups: u32,
-    pub entries: u32,
-    pub table: usize,
-    pub lists: usize,
-}
-
-// How far a walk has come: groups and entries so far, and whether it has stopped.
-pub struct Tally {
-    pub groups: u32,
-    pub entries: u32,
-    pub stopped: bool,
-}
-
-// The labels of S that are left, with zeros after them.
-pub struct Labels {
-    pub first: u16,
-    pub second: u16,
-    pub third: u16,
-}
 
 // Arranges the edges of s, which are at hand both ways round.
 fn lay(s: &[u8], joined: &mut [u32])
     requires { ⌜ AtHand (now s) (now joined) ⌝ }
     ensures { λ _. ⌜ Laid (now (s .entry)) (now (joined .exit)) ⌝ }
 {
-    arrange(store::node_part(s), joined);
+    sides::arrange(store::node_part(s), joined);
 }
 
 // Whether the index of s has too many entries; where it has not, its edges are arranged.
@@ -89,7 +51,7 @@ fn number_of_many(s: &[u8], joined: &[u32]) -> u32
     requires { ⌜ AtHand (now s) (now joined) × (1048576 < entryTotal (storeIndex (now s))) ⌝ }
     ensures { λ r. ⌜ r ≡ graphNumber (now (s .entry)) ⌝ }
 {
-    if some_exceeds(s, joined) {
+    if exceed::some_exceeds(s, joined) {
         return 4;
     }
     11
@@ -155,7 +117,7 @@ pub fn build(draft: &[u8], room: &mut [u8]) -> Built
         };
     }
     let mut joined = [0u32; 524288];
-    let n = own_joined(draft, &mut joined);
+    let n = joined::own_joined(draft, &mut joined);
     build_with(draft, &mut joined[..n], room)
 }
 
@@ -166,7 +128,7 @@ fn header_same(s: &[u8], groups: u32, entries: u32) -> bool
 {
     let mut own = [0u8; 48];
     put_header(s, groups, entries, &mut own);
-    bytes_same(&own, &s[..48])
+    keys::bytes_same(&own, &s[..48])
 }
 
 // Whether the groups and entries of s are those of its index, of which there are so many.
@@ -184,7 +146,7 @@ fn index_same(s: &[u8], joined: &[u32], groups: u32, entries: u32) -> bool
         lists: table + groups as usize * 24,
     };
     let mut none = [0u8; 1];
-    let t = pass(task, s, joined, s, &mut none);
+    let t = pass::pass(task, s, joined, s, &mut none);
     !t.stopped
 }
 
@@ -227,6 +189,6 @@ pub fn admit(s: &[u8]) -> u32
         return early;
     }
     let mut joined = [0u32; 524288];
-    let n = own_joined(s, &mut joined);
+    let n = joined::own_joined(s, &mut joined);
     admit_with(s, &mut joined[..n])
 }

@@ -4,8 +4,8 @@ use native.Mathlib.Omega.{arith}
 use mathlib.Core.Path.{sym, _∙_}
 use lib.ListN.{length-take}
 use borrow.Author.Tests.{not-false}
-use Rattle.build.proofs.Passing.{new-fits}
-use Rattle.build.proofs.Index.{right-sound}
+use Rattle.joined.proofs.Sections.{new-fits}
+use Rattle.keys.proofs.Index.{right-sound}
 use Rattle.build.proofs.Numbers.{early-number, early-right}
 use Rattle.build.proofs.Laying.{front-short}
 use Rattle.build.proofs.Admitted.{admits-not, admits-graph}

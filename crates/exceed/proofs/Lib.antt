@@ -1,0 +1,3 @@
+mod Sifting
+mod Exceeding
+mod Exceeds

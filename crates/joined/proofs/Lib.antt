@@ -1,0 +1,9 @@
+pub mod Sections
+mod Filling
+pub mod Kept
+pub mod Ranges
+pub mod Edges
+mod Starting
+mod Beginnings
+mod Joining
+pub mod Nearby

@@ -1,0 +1,4 @@
+pub mod Packed
+pub mod Near
+pub mod Sound
+pub mod Starts

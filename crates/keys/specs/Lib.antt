@@ -1,0 +1,4 @@
+pub mod Keyed
+pub mod Emit
+pub mod Walk
+pub mod Pass

@@ -1,0 +1,5 @@
+pub mod Twice
+mod Sides
+mod Sought
+mod Arranging
+pub mod Pairing
