@@ -47,6 +47,8 @@ archive_of_module() {
 }
 
 mkdir -p target/lib
+# what the library rests on, proved several crates at a time: `rt staticlib` alone takes one after another
+rt check $(sed -n 's/^bahrufaz: //p' crates.txt)
 if [ "$processor" = x86_64 ]; then
     rt staticlib bahrufaz
     cp target/staticlib/libbahrufaz.a target/lib/libbahrufaz.a
