@@ -5,14 +5,14 @@ use mathlib.Core.Path.{_≡_, refl, sym, ap, _∙_, fun-ext}
 use mathlib.Core.Bool.{Bool, true, false, not, _&&_, _||_, true≢false, false≢true, or-true}
 use mathlib.Core.List.{List, [], _∷_, _++_, flatMap}
 use Prim.Native.Nat.{ℕ, suc, _+_, _%_, _≤_, _<_}
-use lib.Dec.{eqb}
+use lib.Dec.{eqb, leb}
 use lib.ListN.{length, take, getD}
 use lib.Seq.{slice}
-use borrow.Author.Tests.{le-ltb, lt-ltb, ne-eqb}
-use Rattle.rules.specs.Lists.{all, any, keep, Strict}
+use borrow.Author.Tests.{le-ltb, lt-ltb, ne-eqb, eqb-true}
+use Rattle.rules.specs.Lists.{all, any, keep, has, Strict}
 use Rattle.rules.specs.Graph.{labelled}
 use Rattle.laws.specs.Keeping.{keep-most}
-use Rattle.laws.specs.Members.{keep-yes, keep-no, keep-from}
+use Rattle.laws.specs.Members.{keep-yes, keep-no, keep-from, has-keep}
 use Rattle.laws.specs.Slices.{slice-next, slice-none}
 use Rattle.laws.specs.Cases.{first-holds, second-holds}
 use Rattle.laws.specs.Searching.{standsIn}
@@ -22,6 +22,7 @@ use Rattle.sides.specs.Left.{labelsIn}
 use Rattle.sides.specs.declared.Labels.{Labels}
 use Rattle.keys.specs.Keyed.{keyedFrom}
 use Rattle.keys.specs.Walk.{restOf}
+use Rattle.exceed.specs.Counting.{longLast}
 use Rattle.exceed.specs.Exceed.{longFrom, goesWith, Sifted, Rooms}
 use Rattle.joined.proofs.Nearby.{and-swap, either-side}
 use Rattle.sides.proofs.Twice.{keep-keep}
@@ -219,6 +220,15 @@ pub try-whole : (nodes joined : List ℕ) (left : Labels) (t : ℕ) (list : List
 try-whole nodes joined left t list h z =
     sym (ap (λ l. longFrom (wordIn joined) (labelledIn nodes) t l list) (labels-none (left .first) (left .second) (left .third) z) ∙ long-here (wordIn joined) (labelledIn nodes) t list h)
 
+-- one label is left, and nodes are counted
+pub try-counted : (nodes joined : List ℕ) (left : Labels) (t : ℕ) (list : List ℕ) {r : Bool} → t < length list → (left .first ≡ 0 → ⊥) → (eqb (left .second) 0 && leb 256 (length list)) ≡ true
+    → r ≡ longLast nodes joined (left .first) t list → r ≡ longFrom (wordIn joined) (labelledIn nodes) t (labelsIn left) list
+unfolding longLast longFrom
+try-counted nodes joined left t list h k one q =
+    let z : left .second ≡ 0 = eqb-true (left .second) 0 (first-holds (eqb (left .second) 0) (leb 256 (length list)) one) in
+    q ∙ sym (ap (λ l. longFrom (wordIn joined) (labelledIn nodes) t l list) (labels-next (left .first) (left .second) (left .third) k ∙ ap (λ l. left .first ∷ l) (labels-none (left .second) (left .third) 0 z))
+    ∙ long-on (wordIn joined) (labelledIn nodes) t (left .first) [] list h)
+
 -- one level deeper
 pub rooms-next : {nodes joined : List ℕ} {left left′ : Labels} {list list′ one two two′ three three′ none′ a b b′ c c′ near′ : List ℕ} (p : ℕ → Bool) → Rooms nodes joined left list one two three a b c
     → left′ ≡ restOf left → list′ ≡ keep p list → length two′ ≡ length two → length three′ ≡ length three → length b′ ≡ length b → length c′ ≡ length c
@@ -231,6 +241,7 @@ rooms-next {list = list} {list′ = list′} p f r l e₂ e₃ eb ec =
       both = f .both;
       short = omega arith;
       ascends = rw l (keep-from p 0 list (f .ascends));
+      inside = λ v h. f .inside v (second-holds (p v) (has v list) (sym (has-keep p v list) ∙ rw l at h));
       first = λ z. rw (e₂, eb) (f .second (λ q. z (ap (λ x. x .first) r ∙ q)));
       second = λ z. rw (e₃, ec) (f .third (λ q. z (ap (λ x. x .second) r ∙ q)));
       third = λ z. absurd (z (ap (λ x. x .third) r));

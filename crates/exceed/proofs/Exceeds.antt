@@ -18,6 +18,7 @@ use Rattle.sides.specs.declared.Labels.{Labels}
 use Rattle.keys.specs.Pass.{Right, AtHand}
 use Rattle.exceed.specs.Exceed.{longFrom, exceedsBy, exceedsAt, exceedsIn, Rooms, Ample}
 use Rattle.joined.proofs.Nearby.{labelled-strict}
+use Rattle.sides.proofs.Pairing.{labelled-below}
 use Rattle.keys.proofs.Passing.{labelled-few}
 use Rattle.keys.proofs.Groups.{satisfies-keyed}
 use Rattle.keys.proofs.Graphs.{own-both}
@@ -35,6 +36,7 @@ rooms-start {nodes} {list = list} l r e =
       both = r .both;
       short = omega arith;
       ascends = rw e (labelled-strict nodes l);
+      inside = λ v h. let k = labelled-below nodes l v (rw e at h) in omega arith;
       first = λ z. r .first;
       second = λ z. r .second;
       third = λ z. r .third;

@@ -1,3 +1,4 @@
+mod Counts
 mod Sifting
 mod Exceeding
 mod Exceeds

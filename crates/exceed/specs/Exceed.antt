@@ -12,6 +12,7 @@ use Rattle.joined.specs.Packed.{wordIn, labelledIn}
 use Rattle.joined.specs.Near.{lows, Joined}
 use Rattle.sides.specs.Left.{labelsLeft}
 use Rattle.sides.specs.declared.Labels.{Labels}
+use Rattle.exceed.specs.Counting.{Inside}
 
 -- some key that goes on with nodes of these labels has a list longer than t; `list` is the list of the nodes before them
 unfoldable pub longFrom : (ℕ → ℕ → Bool) → (ℕ → List ℕ) → ℕ → List ℕ → List ℕ → Bool
@@ -45,6 +46,7 @@ pub record Rooms (nodes joined : List ℕ) (left : Labels) (list one two three a
   pub both : Joined joined
   pub short : length list ≤ 65536
   pub ascends : Strict list
+  pub inside : Inside list
   pub first : (left .first ≡ 0 → ⊥) → (65536 ≤ length one) × (65536 ≤ length a)
   pub second : (left .second ≡ 0 → ⊥) → (65536 ≤ length two) × (65536 ≤ length b)
   pub third : (left .third ≡ 0 → ⊥) → (65536 ≤ length three) × (65536 ≤ length c)

@@ -1,4 +1,5 @@
 // Refusal 4: whether some list is longer than its N, decided without going through the keys.
+use crate::counting::counts_exceed;
 use sides::Labels;
 ghost use mathlib.Core.Path.{_≡_};
 ghost use Prim.Native.Nat.{_≤_, _<_};
@@ -123,7 +124,8 @@ fn sifted(
 }
 
 // Whether some key that goes on with nodes of the labels left has a list longer than N; `list` is the list of the nodes before them.
-// A node whose part of the list is within that of a node that led to none leads to none.
+// A node whose part of the list is within that of a node that led to none leads to none. With one label left, a long list is counted instead;
+// for a short one, clearing the counts would cost more than it saves.
 fn exceeds_from(
     nodes: &[u8],
     joined: &[u32],
@@ -145,6 +147,9 @@ fn exceeds_from(
     }
     if left.first == 0 {
         return true;
+    }
+    if (left.second == 0) & (256 <= list.len()) {
+        return counts_exceed(nodes, joined, left.first, most, list, one);
     }
     let n = sifted(nodes, joined, list, left.first, most, first, one);
     let mut none = [0u32; 1];

@@ -13,7 +13,8 @@ use Prim.Native.Nat.{ℕ, _-_, _<_}
 use borrow.Fn.Kinds.{In}
 use borrow.Fn.PlainCycle.{Measures, is, falls, and}
 use Rattle.keys.proofs.rest_of.Reads as rest-of-reads
-use Rattle.exceed.proofs.Exceeding.{Trying, try-start, try-skip, try-next, try-stop, try-done, try-short, try-whole, rooms-next}
+use Rattle.exceed.proofs.Exceeding.{Trying, try-start, try-skip, try-next, try-stop, try-done, try-short, try-whole, try-counted, rooms-next}
+use Rattle.exceed.proofs.counting.counts_exceed.Reads as counts-exceed-reads
 use Rattle.exceed.proofs.exceed.exceeds_from.Reads as exceeds-from
 use Rattle.exceed.proofs.exceed.exceeds_from.Kinds as exceeds-from-kinds
 use Rattle.exceed.proofs.exceed.+exceeds_from.Lts-exceeds_from as exceeds-from-lts
@@ -32,7 +33,7 @@ abbrev exceeds-from-below : ℕ → In 9 exceeds-from-kinds.ps
 exceeds-from-below t = and 9 exceeds-from-kinds.ps (falls 9 exceeds-from-kinds.ps _<_ μ-exceeds-from t) exceeds-from.Pre
 
 abbrev exceeds-from-calls : ℕ → exceeds-from-lts.Claims
-exceeds-from-calls t = (sifted-reads.Asked, sifted-reads.Learnt, goes-with-reads.Asked, goes-with-reads.Learnt, shared-reads.Asked, shared-reads.Learnt, rest-of-reads.Asked, rest-of-reads.Learnt, exceeds-from-below t, exceeds-from.Post)
+exceeds-from-calls t = (counts-exceed-reads.Asked, counts-exceed-reads.Learnt, sifted-reads.Asked, sifted-reads.Learnt, goes-with-reads.Asked, goes-with-reads.Learnt, shared-reads.Asked, shared-reads.Learnt, rest-of-reads.Asked, rest-of-reads.Learnt, exceeds-from-below t, exceeds-from.Post)
 
 abbrev exceeds-from-Inv-loop : exceeds-from-lts.InvT-loop
 exceeds-from-Inv-loop nodes joined left most list one₀ two₀ three₀ first second₀ third₀ n none₀ empty₀ w₀ i₀ one two three second third none empty w i =
@@ -49,21 +50,32 @@ exceeds-from-returns t c = try-short _ _ _ _ _ (c .if1 .taken)
 exceeds-from-returns-2 : (t : ℕ) → exceeds-from-lts.Need-returns-2 (exceeds-from-calls t) (exceeds-from-at t) exceeds-from.Post exceeds-from-Inv-loop exceeds-from-μ-loop
 exceeds-from-returns-2 t c = try-whole _ _ _ _ _ (c .before .before .if1 .left) (c .if2 .taken)
 
+exceeds-from-counts-exceed-requires : (t : ℕ) → exceeds-from-lts.Need-counts-exceed-requires (exceeds-from-calls t) (exceeds-from-at t) exceeds-from.Post exceeds-from-Inv-loop exceeds-from-μ-loop
+exceeds-from-counts-exceed-requires t c κs =
+    let s = c .before .before .before .before .before .before .before .before .before .before .before .before .before .before .before in
+    ((s .pre .1 .first (c .before .before .before .if2 .left) .0, s .pre .1 .few), (s .pre .1 .both, (s .pre .1 .short, s .pre .1 .inside)))
+
+exceeds-from-same-length : (t : ℕ) → exceeds-from-lts.Need-same-length (exceeds-from-calls t) (exceeds-from-at t) exceeds-from.Post exceeds-from-Inv-loop exceeds-from-μ-loop
+exceeds-from-same-length t c = c .before .before .counts-exceed .kept .1 .1 .1 .1 .1 .0
+
+exceeds-from-returns-3 : (t : ℕ) → exceeds-from-lts.Need-returns-3 (exceeds-from-calls t) (exceeds-from-at t) exceeds-from.Post exceeds-from-Inv-loop exceeds-from-μ-loop
+exceeds-from-returns-3 t c = try-counted _ _ _ _ _ (c .before .before .before .before .before .before .before .before .if1 .left) (c .before .before .before .before .before .before .if2 .left) (c .before .before .before .before .if3 .taken) (c .before .before .counts-exceed .ensures)
+
 exceeds-from-sifted-requires : (t : ℕ) → exceeds-from-lts.Need-sifted-requires (exceeds-from-calls t) (exceeds-from-at t) exceeds-from.Post exceeds-from-Inv-loop exceeds-from-μ-loop
 exceeds-from-sifted-requires t c κs =
-    let s = c .before .before .before .before .before .before .before .before .before .before .before .before .before .before in
-    let rooms = s .pre .1 .first (c .before .before .if2 .left) in
+    let s = c .before .before .before .before .before .before .before .before .before .before .before .before .before .before .before .before in
+    let rooms = s .pre .1 .first (c .before .before .before .before .if2 .left) in
     ((rooms .1, rooms .0), (s .pre .1 .few, (s .pre .1 .both, (s .pre .1 .short, s .pre .1 .ascends))))
 
 exceeds-from-loop-holds : (t : ℕ) → exceeds-from-lts.Need-loop-holds (exceeds-from-calls t) (exceeds-from-at t) exceeds-from.Post exceeds-from-Inv-loop exceeds-from-μ-loop
 exceeds-from-loop-holds t c =
-    let s = c .before .before .before .before .before .before .before .before .before .before .before .before .before .before .before .before .before .before .before in
-    let left = c .before .before .before .before .before .before .before .if2 .left in
+    let s = c .before .before .before .before .before .before .before .before .before .before .before .before .before .before .before .before .before .before .before .before .before in
+    let left = c .before .before .before .before .before .before .before .before .before .if2 .left in
     let sifted = c .before .before .before .before .sifted in
     let room = s .pre .1 .first left .1 in
     let few = sifted .ensures .0 in
     let kept = sifted .kept .1 .1 .1 .1 .1 .0 in
-    ((refl, refl, refl, refl, refl, refl, refl), try-start _ (c .before .before .before .before .before .before .before .before .before .if1 .left) left (omega arith) (sifted .ensures .1))
+    ((refl, refl, refl, refl, refl, refl, refl), try-start _ (c .before .before .before .before .before .before .before .before .before .before .before .if1 .left) left (omega arith) (sifted .ensures .1))
 
 exceeds-from-mul-u : (t : ℕ) → exceeds-from-lts.Need-mul-u (exceeds-from-calls t) (exceeds-from-at t) exceeds-from.Post exceeds-from-Inv-loop exceeds-from-μ-loop
 exceeds-from-mul-u t c = search needs
@@ -75,12 +87,12 @@ exceeds-from-add-i : (t : ℕ) → exceeds-from-lts.Need-add-i (exceeds-from-cal
 exceeds-from-add-i t c = search needs
 
 exceeds-from-goes-with-requires : (t : ℕ) → exceeds-from-lts.Need-goes-with-requires (exceeds-from-calls t) (exceeds-from-at t) exceeds-from.Post exceeds-from-Inv-loop exceeds-from-μ-loop
-exceeds-from-goes-with-requires t c κs = let s = c .before .before .before .before .before .before .before .before .before .before .before .before .before .before .before .before .before .before .before .before .before .before in (s .pre .1 .both .strict, s .pre .1 .ascends)
+exceeds-from-goes-with-requires t c κs = let s = c .before .before .before .before .before .before .before .before .before .before .before .before .before .before .before .before .before .before .before .before .before .before .before .before in (s .pre .1 .both .strict, s .pre .1 .ascends)
 
 exceeds-from-shared-requires : (t : ℕ) → exceeds-from-lts.Need-shared-requires (exceeds-from-calls t) (exceeds-from-at t) exceeds-from.Post exceeds-from-Inv-loop exceeds-from-μ-loop
 exceeds-from-shared-requires t c κs =
-    let s = c .before .before .before .before .before .before .before .before .before .before .before .before .before .before .before .before .before .before .before .before .before .before .before .before .before in
-    let left = c .before .before .before .before .before .before .before .before .before .before .before .before .before .if2 .left in
+    let s = c .before .before .before .before .before .before .before .before .before .before .before .before .before .before .before .before .before .before .before .before .before .before .before .before .before .before .before in
+    let left = c .before .before .before .before .before .before .before .before .before .before .before .before .before .before .before .if2 .left in
     let rooms = s .pre .1 .first left in
     let same = c .before .before .before .before .before .loop .inv .0 .0 in
     let kept = c .before .before .before .before .before .before .before .before .before .before .sifted .kept .1 .1 .1 .1 .1 .1 .0 in
@@ -92,8 +104,8 @@ exceeds-from-rest-of-requires t c κs = search needs
 
 exceeds-from-slice-reshare-prefix-exceeds-from : (t : ℕ) → exceeds-from-lts.Need-slice-reshare-prefix-exceeds-from (exceeds-from-calls t) (exceeds-from-at t) exceeds-from.Post exceeds-from-Inv-loop exceeds-from-μ-loop
 exceeds-from-slice-reshare-prefix-exceeds-from t c =
-    let s = c .before .before .before .before .before .before .before .before .before .before .before .before .before .before .before .before .before .before .before .before .before .before .before .before .before .before .before .before .before in
-    let left = c .before .before .before .before .before .before .before .before .before .before .before .before .before .before .before .before .before .if2 .left in
+    let s = c .before .before .before .before .before .before .before .before .before .before .before .before .before .before .before .before .before .before .before .before .before .before .before .before .before .before .before .before .before .before .before in
+    let left = c .before .before .before .before .before .before .before .before .before .before .before .before .before .before .before .before .before .before .before .if2 .left in
     let rooms = s .pre .1 .first left in
     let same = c .before .before .before .before .before .before .before .before .before .loop .inv .0 .0 in
     let kept = c .before .before .before .before .before .before .before .before .before .before .before .before .before .before .sifted .kept .1 .1 .1 .1 .1 .1 .0 in
@@ -103,8 +115,8 @@ exceeds-from-slice-reshare-prefix-exceeds-from t c =
 
 exceeds-from-slice-aggregate-exceeds-from : (t : ℕ) → exceeds-from-lts.Need-slice-aggregate-exceeds-from (exceeds-from-calls t) (exceeds-from-at t) exceeds-from.Post exceeds-from-Inv-loop exceeds-from-μ-loop
 exceeds-from-slice-aggregate-exceeds-from t c =
-    let s = c .before .before .before .before .before .before .before .before .before .before .before .before .before .before .before .before .before .before .before .before .before .before .before .before .before .before .before .before .before .before in
-    let left = c .before .before .before .before .before .before .before .before .before .before .before .before .before .before .before .before .before .before .if2 .left in
+    let s = c .before .before .before .before .before .before .before .before .before .before .before .before .before .before .before .before .before .before .before .before .before .before .before .before .before .before .before .before .before .before .before .before in
+    let left = c .before .before .before .before .before .before .before .before .before .before .before .before .before .before .before .before .before .before .before .before .if2 .left in
     let rooms = s .pre .1 .first left in
     let same = c .before .before .before .before .before .before .before .before .before .before .loop .inv .0 .0 in
     let kept = c .before .before .before .before .before .before .before .before .before .before .before .before .before .before .before .sifted .kept .1 .1 .1 .1 .1 .1 .0 in
@@ -121,33 +133,33 @@ exceeds-from-slice-aggregate-exceeds-from-3 t c = search needs
 
 exceeds-from-exceeds-from-requires : (t : ℕ) → exceeds-from-lts.Need-exceeds-from-requires (exceeds-from-calls t) (exceeds-from-at t) exceeds-from.Post exceeds-from-Inv-loop exceeds-from-μ-loop
 exceeds-from-exceeds-from-requires t c κs =
-    let s = c .before .before .before .before .before .before .before .before .before .before .before .before .before .before .before .before .before .before .before .before .before .before .before .before .before .before .before .before .before .before .before .before .before .before .before .before in
-    let left = c .before .before .before .before .before .before .before .before .before .before .before .before .before .before .before .before .before .before .before .before .before .before .before .before .if2 .left in
+    let s = c .before .before .before .before .before .before .before .before .before .before .before .before .before .before .before .before .before .before .before .before .before .before .before .before .before .before .before .before .before .before .before .before .before .before .before .before .before .before in
+    let left = c .before .before .before .before .before .before .before .before .before .before .before .before .before .before .before .before .before .before .before .before .before .before .before .before .before .before .if2 .left in
     let inv = c .before .before .before .before .before .before .before .before .before .before .before .before .before .before .before .before .loop .inv .0 in
     let f = rooms-next _ (s .pre .1) (c .before .before .before .before .before .before .before .rest-of .ensures) (c .before .before .before .before .before .before .before .before .before .before .shared .ensures .1) (inv .1) (inv .2) (inv .3) (inv .4) in
     let fall = labels-fall _ _ left (c .before .before .before .before .before .before .before .rest-of .ensures) in
     (omega (arith, s .pre .0), f)
 
-exceeds-from-same-length : (t : ℕ) → exceeds-from-lts.Need-same-length (exceeds-from-calls t) (exceeds-from-at t) exceeds-from.Post exceeds-from-Inv-loop exceeds-from-μ-loop
-exceeds-from-same-length t c = c .before .before .before .before .before .before .before .before .before .before .before .before .before .before .before .before .before .before .before .before .before .before .shared .kept .1 .1 .1 .0 ∙ c .before .before .before .before .before .before .before .before .before .before .before .before .before .before .before .before .before .before .before .before .before .before .before .before .before .before .before .before .loop .inv .0 .0 ∙ c .before .before .before .before .before .before .before .before .before .before .before .before .before .before .before .before .before .before .before .before .before .before .before .before .before .before .before .before .before .before .before .before .before .sifted .kept .1 .1 .1 .1 .1 .1 .0
-
 exceeds-from-same-length-2 : (t : ℕ) → exceeds-from-lts.Need-same-length-2 (exceeds-from-calls t) (exceeds-from-at t) exceeds-from.Post exceeds-from-Inv-loop exceeds-from-μ-loop
-exceeds-from-same-length-2 t c = c .before .before .before .before .before .before .before .before .before .before .before .exceeds-from .kept .1 .1 .1 .1 .1 .0 ∙ c .before .before .before .before .before .before .before .before .before .before .before .before .before .before .before .before .before .before .before .before .before .before .before .before .before .before .before .before .loop .inv .0 .1
+exceeds-from-same-length-2 t c = c .before .before .before .before .before .before .before .before .before .before .before .before .before .before .before .before .before .before .before .before .before .before .shared .kept .1 .1 .1 .0 ∙ c .before .before .before .before .before .before .before .before .before .before .before .before .before .before .before .before .before .before .before .before .before .before .before .before .before .before .before .before .loop .inv .0 .0 ∙ c .before .before .before .before .before .before .before .before .before .before .before .before .before .before .before .before .before .before .before .before .before .before .before .before .before .before .before .before .before .before .before .before .before .sifted .kept .1 .1 .1 .1 .1 .1 .0
 
 exceeds-from-same-length-3 : (t : ℕ) → exceeds-from-lts.Need-same-length-3 (exceeds-from-calls t) (exceeds-from-at t) exceeds-from.Post exceeds-from-Inv-loop exceeds-from-μ-loop
-exceeds-from-same-length-3 t c = c .before .before .before .before .before .before .before .before .before .before .before .exceeds-from .kept .1 .1 .1 .1 .1 .1 .0 ∙ c .before .before .before .before .before .before .before .before .before .before .before .before .before .before .before .before .before .before .before .before .before .before .before .before .before .before .before .before .loop .inv .0 .2
+exceeds-from-same-length-3 t c = c .before .before .before .before .before .before .before .before .before .before .before .exceeds-from .kept .1 .1 .1 .1 .1 .0 ∙ c .before .before .before .before .before .before .before .before .before .before .before .before .before .before .before .before .before .before .before .before .before .before .before .before .before .before .before .before .loop .inv .0 .1
 
 exceeds-from-same-length-4 : (t : ℕ) → exceeds-from-lts.Need-same-length-4 (exceeds-from-calls t) (exceeds-from-at t) exceeds-from.Post exceeds-from-Inv-loop exceeds-from-μ-loop
-exceeds-from-same-length-4 t c = c .before .before .before .before .before .before .before .before .before .before .before .before .before .before .before .before .before .before .before .before .before .before .before .before .before .before .before .before .before .before .before .before .before .sifted .kept .1 .1 .1 .1 .1 .0
+exceeds-from-same-length-4 t c = c .before .before .before .before .before .before .before .before .before .before .before .exceeds-from .kept .1 .1 .1 .1 .1 .1 .0 ∙ c .before .before .before .before .before .before .before .before .before .before .before .before .before .before .before .before .before .before .before .before .before .before .before .before .before .before .before .before .loop .inv .0 .2
 
 exceeds-from-same-length-5 : (t : ℕ) → exceeds-from-lts.Need-same-length-5 (exceeds-from-calls t) (exceeds-from-at t) exceeds-from.Post exceeds-from-Inv-loop exceeds-from-μ-loop
-exceeds-from-same-length-5 t c = c .before .before .before .before .before .before .before .before .before .before .before .exceeds-from .kept .1 .1 .1 .1 .1 .1 .1 .1 .0 ∙ c .before .before .before .before .before .before .before .before .before .before .before .before .before .before .before .before .before .before .before .before .before .before .before .before .before .before .before .before .loop .inv .0 .3
+exceeds-from-same-length-5 t c = c .before .before .before .before .before .before .before .before .before .before .before .before .before .before .before .before .before .before .before .before .before .before .before .before .before .before .before .before .before .before .before .before .before .sifted .kept .1 .1 .1 .1 .1 .0
 
 exceeds-from-same-length-6 : (t : ℕ) → exceeds-from-lts.Need-same-length-6 (exceeds-from-calls t) (exceeds-from-at t) exceeds-from.Post exceeds-from-Inv-loop exceeds-from-μ-loop
-exceeds-from-same-length-6 t c = c .before .before .before .before .before .before .before .before .before .before .before .exceeds-from .kept .1 .1 .1 .1 .1 .1 .1 .1 .1 .0 ∙ c .before .before .before .before .before .before .before .before .before .before .before .before .before .before .before .before .before .before .before .before .before .before .before .before .before .before .before .before .loop .inv .0 .4
+exceeds-from-same-length-6 t c = c .before .before .before .before .before .before .before .before .before .before .before .exceeds-from .kept .1 .1 .1 .1 .1 .1 .1 .1 .0 ∙ c .before .before .before .before .before .before .before .before .before .before .before .before .before .before .before .before .before .before .before .before .before .before .before .before .before .before .before .before .loop .inv .0 .3
 
-exceeds-from-returns-3 : (t : ℕ) → exceeds-from-lts.Need-returns-3 (exceeds-from-calls t) (exceeds-from-at t) exceeds-from.Post exceeds-from-Inv-loop exceeds-from-μ-loop
-exceeds-from-returns-3 t c = try-stop (c .before .before .before .before .before .before .before .before .before .before .before .before .before .before .before .before .before .before .before .before .before .before .before .before .before .before .before .before .loop .inv .1) _ (c .before .before .before .before .before .before .before .before .before .before .before .before .before .before .before .before .before .before .before .before .before .before .before .before .before .before .before .loop-test .taken) refl (c .before .before .before .before .before .before .before .before .before .before .before .before .before .before .before .before .before .before .before .rest-of .ensures) (c .before .before .before .before .before .before .before .before .before .before .before .before .before .before .before .before .before .before .before .before .before .before .shared .ensures .1) (c .before .before .before .before .before .before .before .before .before .before .before .exceeds-from .ensures) (c .if4 .taken)
+exceeds-from-same-length-7 : (t : ℕ) → exceeds-from-lts.Need-same-length-7 (exceeds-from-calls t) (exceeds-from-at t) exceeds-from.Post exceeds-from-Inv-loop exceeds-from-μ-loop
+exceeds-from-same-length-7 t c = c .before .before .before .before .before .before .before .before .before .before .before .exceeds-from .kept .1 .1 .1 .1 .1 .1 .1 .1 .1 .0 ∙ c .before .before .before .before .before .before .before .before .before .before .before .before .before .before .before .before .before .before .before .before .before .before .before .before .before .before .before .before .loop .inv .0 .4
+
+exceeds-from-returns-4 : (t : ℕ) → exceeds-from-lts.Need-returns-4 (exceeds-from-calls t) (exceeds-from-at t) exceeds-from.Post exceeds-from-Inv-loop exceeds-from-μ-loop
+exceeds-from-returns-4 t c = try-stop (c .before .before .before .before .before .before .before .before .before .before .before .before .before .before .before .before .before .before .before .before .before .before .before .before .before .before .before .before .loop .inv .1) _ (c .before .before .before .before .before .before .before .before .before .before .before .before .before .before .before .before .before .before .before .before .before .before .before .before .before .before .before .loop-test .taken) refl (c .before .before .before .before .before .before .before .before .before .before .before .before .before .before .before .before .before .before .before .rest-of .ensures) (c .before .before .before .before .before .before .before .before .before .before .before .before .before .before .before .before .before .before .before .before .before .before .shared .ensures .1) (c .before .before .before .before .before .before .before .before .before .before .before .exceeds-from .ensures) (c .if5 .taken)
 
 exceeds-from-loop-less : (t : ℕ) → exceeds-from-lts.Need-loop-less (exceeds-from-calls t) (exceeds-from-at t) exceeds-from.Post exceeds-from-Inv-loop exceeds-from-μ-loop
 exceeds-from-loop-less t c = let test = c .before .before .before .before .before .before .before .before .before .before .before .before .before .before .before .before .before .before .before .before .before .before .before .before .before .before .before .loop-test .taken in omega arith
@@ -158,17 +170,14 @@ exceeds-from-loop-again t c =
     let out = c .before .before .before .before .before .before .before .before .before .before .before .before .before .before .before .before .before .before .before .before .before .before .shared in
     let e = c .before .before .before .before .before .before .before .before .before .before .before .exceeds-from in (
       (out .kept .1 .1 .1 .0 ∙ inv .0, e .kept .1 .1 .1 .1 .1 .0 ∙ inv .1, e .kept .1 .1 .1 .1 .1 .1 .0 ∙ inv .2, e .kept .1 .1 .1 .1 .1 .1 .1 .1 .0 ∙ inv .3, e .kept .1 .1 .1 .1 .1 .1 .1 .1 .1 .0 ∙ inv .4, e .kept .1 .1 .1 .1 .1 .1 .1 .0 ∙ inv .5, e .kept .1 .1 .1 .1 .1 .1 .1 .1 .1 .1 .0 ∙ inv .6),
-      try-next (c .before .before .before .before .before .before .before .before .before .before .before .before .before .before .before .before .before .before .before .before .before .before .before .before .before .before .before .before .loop .inv .1) _ (c .before .before .before .before .before .before .before .before .before .before .before .before .before .before .before .before .before .before .before .before .before .before .before .before .before .before .before .loop-test .taken) refl (c .before .before .before .before .before .before .before .before .before .before .before .before .before .before .before .before .before .before .before .rest-of .ensures) (out .ensures .1) (e .ensures) (c .if4 .left),
+      try-next (c .before .before .before .before .before .before .before .before .before .before .before .before .before .before .before .before .before .before .before .before .before .before .before .before .before .before .before .before .loop .inv .1) _ (c .before .before .before .before .before .before .before .before .before .before .before .before .before .before .before .before .before .before .before .before .before .before .before .before .before .before .before .loop-test .taken) refl (c .before .before .before .before .before .before .before .before .before .before .before .before .before .before .before .before .before .before .before .rest-of .ensures) (out .ensures .1) (e .ensures) (c .if5 .left),
     )
 
 exceeds-from-loop-less-2 : (t : ℕ) → exceeds-from-lts.Need-loop-less-2 (exceeds-from-calls t) (exceeds-from-at t) exceeds-from.Post exceeds-from-Inv-loop exceeds-from-μ-loop
 exceeds-from-loop-less-2 t c = let test = c .before .before .before .loop-test .taken in omega arith
 
 exceeds-from-loop-again-2 : (t : ℕ) → exceeds-from-lts.Need-loop-again-2 (exceeds-from-calls t) (exceeds-from-at t) exceeds-from.Post exceeds-from-Inv-loop exceeds-from-μ-loop
-exceeds-from-loop-again-2 t c = (c .before .before .before .before .loop .inv .0, try-skip (c .before .before .before .before .loop .inv .1) _ (c .before .before .before .loop-test .taken) refl (c .before .goes-with .ensures) (not-false _ (c .if3 .left)))
-
-exceeds-from-same-length-7 : (t : ℕ) → exceeds-from-lts.Need-same-length-7 (exceeds-from-calls t) (exceeds-from-at t) exceeds-from.Post exceeds-from-Inv-loop exceeds-from-μ-loop
-exceeds-from-same-length-7 t c = search needs
+exceeds-from-loop-again-2 t c = (c .before .before .before .before .loop .inv .0, try-skip (c .before .before .before .before .loop .inv .1) _ (c .before .before .before .loop-test .taken) refl (c .before .goes-with .ensures) (not-false _ (c .if4 .left)))
 
 exceeds-from-same-length-8 : (t : ℕ) → exceeds-from-lts.Need-same-length-8 (exceeds-from-calls t) (exceeds-from-at t) exceeds-from.Post exceeds-from-Inv-loop exceeds-from-μ-loop
 exceeds-from-same-length-8 t c = search needs
@@ -185,8 +194,11 @@ exceeds-from-same-length-11 t c = search needs
 exceeds-from-same-length-12 : (t : ℕ) → exceeds-from-lts.Need-same-length-12 (exceeds-from-calls t) (exceeds-from-at t) exceeds-from.Post exceeds-from-Inv-loop exceeds-from-μ-loop
 exceeds-from-same-length-12 t c = search needs
 
-exceeds-from-returns-4 : (t : ℕ) → exceeds-from-lts.Need-returns-4 (exceeds-from-calls t) (exceeds-from-at t) exceeds-from.Post exceeds-from-Inv-loop exceeds-from-μ-loop
-exceeds-from-returns-4 t c = try-done (c .before .loop .inv .1) (c .loop-test .left)
+exceeds-from-same-length-13 : (t : ℕ) → exceeds-from-lts.Need-same-length-13 (exceeds-from-calls t) (exceeds-from-at t) exceeds-from.Post exceeds-from-Inv-loop exceeds-from-μ-loop
+exceeds-from-same-length-13 t c = search needs
+
+exceeds-from-returns-5 : (t : ℕ) → exceeds-from-lts.Need-returns-5 (exceeds-from-calls t) (exceeds-from-at t) exceeds-from.Post exceeds-from-Inv-loop exceeds-from-μ-loop
+exceeds-from-returns-5 t c = try-done (c .before .loop .inv .1) (c .loop-test .left)
 
 pub +exceeds-from-spec : {M : Type 1} → statement M
 +exceeds-from-spec = close μ-exceeds-from λ t. exceeds-from-lts.spec (exceeds-from-calls t)
@@ -196,6 +208,9 @@ pub +exceeds-from-spec : {M : Type 1} → statement M
     exceeds-from-μ-loop
     (exceeds-from-returns t)
     (exceeds-from-returns-2 t)
+    (exceeds-from-counts-exceed-requires t)
+    (exceeds-from-same-length t)
+    (exceeds-from-returns-3 t)
     (exceeds-from-sifted-requires t)
     (exceeds-from-loop-holds t)
     (exceeds-from-mul-u t)
@@ -209,21 +224,21 @@ pub +exceeds-from-spec : {M : Type 1} → statement M
     (exceeds-from-slice-aggregate-exceeds-from-2 t)
     (exceeds-from-slice-aggregate-exceeds-from-3 t)
     (exceeds-from-exceeds-from-requires t)
-    (exceeds-from-same-length t)
     (exceeds-from-same-length-2 t)
     (exceeds-from-same-length-3 t)
     (exceeds-from-same-length-4 t)
     (exceeds-from-same-length-5 t)
     (exceeds-from-same-length-6 t)
-    (exceeds-from-returns-3 t)
+    (exceeds-from-same-length-7 t)
+    (exceeds-from-returns-4 t)
     (exceeds-from-loop-less t)
     (exceeds-from-loop-again t)
     (exceeds-from-loop-less-2 t)
     (exceeds-from-loop-again-2 t)
-    (exceeds-from-same-length-7 t)
     (exceeds-from-same-length-8 t)
     (exceeds-from-same-length-9 t)
     (exceeds-from-same-length-10 t)
     (exceeds-from-same-length-11 t)
     (exceeds-from-same-length-12 t)
-    (exceeds-from-returns-4 t)
+    (exceeds-from-same-length-13 t)
+    (exceeds-from-returns-5 t)
