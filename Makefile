@@ -1,5 +1,5 @@
 # make run: the small world built, planned and listed. make test: everything that must hold; its last line is rt ci's own.
-.PHONY: run test lib install desk here serve boundary compared bench
+.PHONY: run test reading lib install desk here serve boundary compared bench
 
 # the calls of crate bahrufaz that the comparison makes
 CALLS = build admit plan list
@@ -21,10 +21,14 @@ run:
 test:
 	rt fmt --check
 	tests/contracts.sh
-	cargo test --release --offline --quiet --manifest-path tests/Cargo.toml
+	$(MAKE) --no-print-directory -j2 reading lib
 	$(MAKE) --no-print-directory boundary
 	$(MAKE) --no-print-directory desk
 	rt ci
+
+# the second reading's own tests; they need no library, so they run beside its proof
+reading:
+	env -u MAKEFLAGS -u MFLAGS cargo test --release --offline --quiet --manifest-path tests/Cargo.toml
 
 # the library; include/bahrufaz.h says what it has: for x86-64 in target/staticlib, for the processor at hand in target/lib
 LIB = target/staticlib/libbahrufaz.a target/lib/libbahrufaz.a target/lib/libbahrufaz.so

@@ -5,7 +5,7 @@ use mathlib.Core.Path.{_≡_, refl, sym, ap, _∙_, fun-ext}
 use mathlib.Core.Bool.{Bool, true, false, not, _&&_, _||_, true≢false, false≢true, or-true}
 use mathlib.Core.List.{List, [], _∷_, _++_, flatMap}
 use Prim.Native.Nat.{ℕ, suc, _+_, _%_, _≤_, _<_}
-use lib.Dec.{eqb, leb}
+use lib.Dec.{eqb}
 use lib.ListN.{length, take, getD}
 use lib.Seq.{slice}
 use borrow.Author.Tests.{le-ltb, lt-ltb, ne-eqb, eqb-true}
@@ -220,12 +220,12 @@ pub try-whole : (nodes joined : List ℕ) (left : Labels) (t : ℕ) (list : List
 try-whole nodes joined left t list h z =
     sym (ap (λ l. longFrom (wordIn joined) (labelledIn nodes) t l list) (labels-none (left .first) (left .second) (left .third) z) ∙ long-here (wordIn joined) (labelledIn nodes) t list h)
 
--- one label is left, and nodes are counted
-pub try-counted : (nodes joined : List ℕ) (left : Labels) (t : ℕ) (list : List ℕ) {r : Bool} → t < length list → (left .first ≡ 0 → ⊥) → (eqb (left .second) 0 && leb 256 (length list)) ≡ true
+-- one label is left, and nodes are counted, whatever else decides it
+pub try-counted : (nodes joined : List ℕ) (left : Labels) (t : ℕ) (list : List ℕ) (also : Bool) {r : Bool} → t < length list → (left .first ≡ 0 → ⊥) → (eqb (left .second) 0 && also) ≡ true
     → r ≡ longLast nodes joined (left .first) t list → r ≡ longFrom (wordIn joined) (labelledIn nodes) t (labelsIn left) list
 unfolding longLast longFrom
-try-counted nodes joined left t list h k one q =
-    let z : left .second ≡ 0 = eqb-true (left .second) 0 (first-holds (eqb (left .second) 0) (leb 256 (length list)) one) in
+try-counted nodes joined left t list also h k one q =
+    let z : left .second ≡ 0 = eqb-true (left .second) 0 (first-holds (eqb (left .second) 0) also one) in
     q ∙ sym (ap (λ l. longFrom (wordIn joined) (labelledIn nodes) t l list) (labels-next (left .first) (left .second) (left .third) k ∙ ap (λ l. left .first ∷ l) (labels-none (left .second) (left .third) 0 z))
     ∙ long-on (wordIn joined) (labelledIn nodes) t (left .first) [] list h)
 

@@ -148,7 +148,7 @@ fn exceeds_from(
     if left.first == 0 {
         return true;
     }
-    if (left.second == 0) & (256 <= list.len()) {
+    if (left.second == 0) & (16 <= list.len()) {
         return counts_exceed(nodes, joined, left.first, most, list, one);
     }
     let n = sifted(nodes, joined, list, left.first, most, first, one);

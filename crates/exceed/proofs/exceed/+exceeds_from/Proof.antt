@@ -59,7 +59,7 @@ exceeds-from-same-length : (t : ℕ) → exceeds-from-lts.Need-same-length (exce
 exceeds-from-same-length t c = c .before .before .counts-exceed .kept .1 .1 .1 .1 .1 .0
 
 exceeds-from-returns-3 : (t : ℕ) → exceeds-from-lts.Need-returns-3 (exceeds-from-calls t) (exceeds-from-at t) exceeds-from.Post exceeds-from-Inv-loop exceeds-from-μ-loop
-exceeds-from-returns-3 t c = try-counted _ _ _ _ _ (c .before .before .before .before .before .before .before .before .if1 .left) (c .before .before .before .before .before .before .if2 .left) (c .before .before .before .before .if3 .taken) (c .before .before .counts-exceed .ensures)
+exceeds-from-returns-3 t c = try-counted _ _ _ _ _ _ (c .before .before .before .before .before .before .before .before .if1 .left) (c .before .before .before .before .before .before .if2 .left) (c .before .before .before .before .if3 .taken) (c .before .before .counts-exceed .ensures)
 
 exceeds-from-sifted-requires : (t : ℕ) → exceeds-from-lts.Need-sifted-requires (exceeds-from-calls t) (exceeds-from-at t) exceeds-from.Post exceeds-from-Inv-loop exceeds-from-μ-loop
 exceeds-from-sifted-requires t c κs =
