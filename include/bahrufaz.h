@@ -47,12 +47,12 @@ enum bahrufaz_number {
 };
 
 /* Writes the store of a draft into the room. Results: its length in bytes.
- * A store is at most 17,301,928 bytes long. Stack: under 4 MiB (3,935,640 bytes were measured at
+ * A store is at most 17,301,928 bytes long. Stack: under 4 MiB (3,935,592 bytes were measured at
  * most, over small drafts, feed panels and worlds at the limits).
  * Time follows nodes, edges and entries, times a logarithm, also round a node with very many
  * neighbours: 0.2 s at most were measured over feed panels of 60,000 nodes and worlds at the limits.
  * Only where the index would have more than 1,048,576 entries, and the answer is 4 or 11, a list
- * above its N is searched for, which may take longer: 11 s for a draft that was made for it, 1,020
+ * above its N is searched for, which may take longer: 9 s for a draft that was made for it, 1,020
  * nodes of which nearly all of three labels neighbour all of a fourth. */
 uint32_t bahrufaz_build(const uint8_t *draft, size_t draft_length, uint8_t *room, size_t room_length,
                         uint32_t results[8]);
