@@ -19,13 +19,13 @@ use Rattle.laws.specs.Cases.{first-holds, second-holds}
 use Rattle.laws.specs.Header.{header-ends, header-long}
 use Rattle.joined.specs.Packed.{forwardWords}
 use Rattle.joined.specs.Sound.{joinedSet}
-use Rattle.keys.specs.Emit.{sinkOf, Placed}
+use Rattle.emit.specs.Emit.{sinkOf, Placed}
 use Rattle.keys.specs.Pass.{Right, passed}
-use Rattle.keys.specs.declared.Task.{Task}
-use Rattle.keys.specs.declared.Tally.{Tally}
+use Rattle.emit.specs.declared.Task.{Task}
+use Rattle.emit.specs.declared.Tally.{Tally}
 use Rattle.build.specs.Steps.{indexSame}
-use Rattle.keys.proofs.Records.{over-all}
-use Rattle.keys.proofs.Comparing.{same-append}
+use Rattle.emit.proofs.Records.{over-all}
+use Rattle.emit.proofs.Comparing.{same-append}
 use Rattle.keys.proofs.Items.{short, total, groupFor}
 use Rattle.keys.proofs.Whole.{compare-all, part-add, length-part}
 use Rattle.keys.proofs.Index.{itemsOf, passed-items, index-items, index-length, index-total}

@@ -1,4 +1,3 @@
-mod Totals
 mod Numbers
 mod Laying
 mod Written

@@ -17,11 +17,11 @@ use Rattle.laws.specs.Keeping.{all-flat}
 use Rattle.joined.specs.Packed.{forwardWords, wordIn, labelledIn}
 use Rattle.joined.specs.Sound.{joinedSet}
 use Rattle.sides.specs.Left.{labelsLeft}
-use Rattle.keys.specs.Keyed.{Keyed, keyedFrom}
-use Rattle.keys.specs.Emit.{sinkOf, Placed}
+use Rattle.emit.specs.Keyed.{Keyed, keyedFrom}
+use Rattle.emit.specs.Emit.{sinkOf, Placed}
 use Rattle.keys.specs.Pass.{keyedBy, aboveFor, Right, passed}
-use Rattle.keys.specs.declared.Task.{Task}
-use Rattle.keys.specs.declared.Tally.{Tally}
+use Rattle.emit.specs.declared.Task.{Task}
+use Rattle.emit.specs.declared.Tally.{Tally}
 use Rattle.keys.proofs.Going.{keyed-short, keyed-here, keyed-on}
 use Rattle.keys.proofs.Passing.{labels-few}
 use Rattle.keys.proofs.Graphs.{graph-edges}

@@ -1,6 +1,6 @@
 // Refusals 2 and 3; refusals 4 and 11, and how many groups and entries the index has.
-use keys::Tally;
-use keys::Task;
+use emit::Tally;
+use emit::Task;
 ghost use mathlib.Core.Path.{_≡_};
 ghost use mathlib.Core.Bool.{true, false};
 ghost use lib.ListN.{length};

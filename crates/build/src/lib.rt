@@ -1,13 +1,11 @@
 // Building and admitting a store: its index counted, written or compared.
 mod count;
-mod total;
 mod write;
 
 use count::count;
 use count::record_number;
-use keys::Task;
+use emit::Task;
 use rules::Built;
-use total::total;
 use write::groups_at;
 use write::put_bytes;
 use write::put_header;
@@ -39,7 +37,7 @@ fn settle(s: &[u8], joined: &mut [u32]) -> bool
     requires { ⌜ AtHand (now s) (now joined) ⌝ }
     ensures { λ r. ⌜ Settled (now (s .entry)) (now (joined .exit)) r ⌝ }
 {
-    if 1048576 < total(s, joined) {
+    if 1048576 < totals::total(s, joined) {
         return true;
     }
     lay(s, joined);
@@ -128,7 +126,7 @@ fn header_same(s: &[u8], groups: u32, entries: u32) -> bool
 {
     let mut own = [0u8; 48];
     put_header(s, groups, entries, &mut own);
-    keys::bytes_same(&own, &s[..48])
+    emit::bytes_same(&own, &s[..48])
 }
 
 // Whether the groups and entries of s are those of its index, of which there are so many.

@@ -1,5 +1,5 @@
 // Writing a store: its header, its sections and its index.
-use keys::Task;
+use emit::Task;
 ghost use mathlib.Core.Path.{_≡_};
 ghost use Prim.Native.Nat.{_+_, _*_, _≤_};
 ghost use lib.ListN.{length};
@@ -27,12 +27,12 @@ pub fn put_header(s: &[u8], groups: u32, entries: u32, room: &mut [u8])
     let n = store::node_count(s);
     let m = store::edge_count(s);
     let k = store::constraint_count(s);
-    keys::put_six(room, 0, 1, n, m, k, groups, entries);
+    emit::put_six(room, 0, 1, n, m, k, groups, entries);
     let edges = 48 + n * 8;
     let constraints = edges + m * 8;
     let table = constraints + k * 12;
     let lists = table + groups * 24;
-    keys::put_six(
+    emit::put_six(
         room,
         24,
         48,

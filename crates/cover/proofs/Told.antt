@@ -1,8 +1,8 @@
 -- What the tests of these functions come to. Assumes nothing.
 use mathlib.Core.Path.{_≡_, refl, sym, ap, _∙_}
-use mathlib.Core.Bool.{Bool, true, false, cond, not, _&&_}
+use mathlib.Core.Bool.{Bool, true, false, not, _&&_}
 use mathlib.Core.List.{List}
-use mathlib.Core.Option.{Option, some, none}
+use mathlib.Core.Option.{some}
 use Prim.Native.Nat.{ℕ, zero, suc, _+_, _-_, _≤_, _<_}
 use native.Mathlib.Decide.{ℕ-discrete}
 use native.Mathlib.Nat.{sub-zero}
@@ -11,14 +11,13 @@ use lib.ListN.{length, getD, set, replicate, length-set}
 use lib.Seq.{getD-set-same, getD-set-other}
 use borrow.Author.Tests.{not-true, not-false}
 use Rattle.rules.specs.Lists.{allFrom}
-use Rattle.rules.specs.Store.{constraintsRight}
 use Rattle.rules.specs.Pattern.{sizeOf, edgesOf}
 use Rattle.rules.specs.Plan.{noFigures, covered, smallest, allWays, edgeWays, edgeCovered, allCovered}
-use Rattle.rules.specs.declared.Row.{Row}
 use Rattle.laws.specs.Covering.{coverFrom, cover-next, cover-still, cover-zero, next-says, edge-some, edge-none, all-covered, ones-most}
-use Rattle.ways.specs.Ways.{wayIn, Known, Small}
+use Rattle.ways.specs.Ways.{wayIn, Small}
 use Rattle.ways.specs.declared.Best.{Best}
-use Rattle.cover.specs.Given.{Given, ones}
+use Rattle.ways.specs.Given.{Given}
+use Rattle.cover.specs.Ones.{ones}
 
 -- an edge is covered if a way was found
 pub edge-told : (constraints b figures : List ℕ) (j : ℕ) (w : Best) → wayIn w ≡ smallest (edgeWays constraints b figures j) → w .found ≡ edgeCovered constraints b figures j

@@ -1,2 +1,2 @@
 -- What the contracts of this crate cite beside the rules. Assumes nothing.
-pub mod Given
+pub mod Ones

@@ -5,9 +5,9 @@ ghost use lib.ListN.{length};
 ghost use Rattle.rules.specs.Lists.{allFrom};
 ghost use Rattle.rules.specs.Pattern.{sizeOf, edgesOf};
 ghost use Rattle.rules.specs.Plan.{covered, edgeCovered, allCovered};
-ghost use Rattle.laws.specs.Covering.{coverFrom};
 ghost use Rattle.ways.specs.Ways.{Ready};
-ghost use Rattle.cover.specs.Given.{Given, ones};
+ghost use Rattle.ways.specs.Given.{Given};
+ghost use Rattle.cover.specs.Ones.{ones};
 
 // The nodes that are covered once no uncovered node has a way: 1 for each.
 fn cover(constraints: &[u8], b: &[u8], t: [[bool; 8]; 8]) -> [u32; 8]

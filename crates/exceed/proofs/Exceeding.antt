@@ -20,7 +20,7 @@ use Rattle.joined.specs.Packed.{wordIn, labelledIn}
 use Rattle.joined.specs.Near.{wordsOf, lows}
 use Rattle.sides.specs.Left.{labelsIn}
 use Rattle.sides.specs.declared.Labels.{Labels}
-use Rattle.keys.specs.Keyed.{keyedFrom}
+use Rattle.emit.specs.Keyed.{keyedFrom}
 use Rattle.keys.specs.Walk.{restOf}
 use Rattle.exceed.specs.Counting.{longLast}
 use Rattle.exceed.specs.Exceed.{longFrom, goesWith, Sifted, Rooms}

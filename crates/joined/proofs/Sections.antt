@@ -3,7 +3,6 @@ use native.Mathlib.Omega.{arith}
 use mathlib.Core.Path.{_≡_}
 use mathlib.Core.List.{List}
 use Prim.Native.Nat.{ℕ, _*_, _≤_}
-use lib.ListN.{length, replicate, length-replicate}
 use Rattle.rules.specs.Lists.{Strict}
 use Rattle.rules.specs.Store.{edgesIn, edgePart}
 use Rattle.joined.specs.Packed.{EdgesBelow, forwardWords}
@@ -14,6 +13,3 @@ edges-fit r s e d = (rw e (d .edges), (rw e (d .below), rw e (d .ascends)))
 
 pub twice-fits : (n m : ℕ) → n ≤ 262144 → 524288 ≤ m → n * 2 ≤ m
 twice-fits n m h k = omega arith
-
-pub new-fits : (n a : ℕ) → n ≤ length (replicate n a)
-new-fits n a = rw length-replicate (omega arith)

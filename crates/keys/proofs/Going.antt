@@ -19,13 +19,13 @@ use Rattle.joined.specs.Packed.{wordIn, labelledIn}
 use Rattle.sides.specs.Pairs.{told, Paired}
 use Rattle.sides.specs.Left.{labelsLeft, labelsIn}
 use Rattle.sides.specs.declared.Labels.{Labels}
-use Rattle.keys.specs.Keyed.{Keyed, keyedFrom}
-use Rattle.keys.specs.Emit.{idsOf, Sink, sinkOf, emit, emitAll}
+use Rattle.emit.specs.Keyed.{Keyed, keyedFrom}
+use Rattle.emit.specs.Emit.{idsOf, Sink, sinkOf, emit, emitAll}
 use Rattle.keys.specs.Walk.{withId, restOf, chosen, keyedOf, Fit, Done}
-use Rattle.keys.specs.declared.Task.{Task}
-use Rattle.keys.specs.declared.Tally.{Tally}
+use Rattle.emit.specs.declared.Task.{Task}
+use Rattle.emit.specs.declared.Tally.{Tally}
 use Rattle.joined.proofs.Nearby.{labelled-strict}
-use Rattle.keys.proofs.Emitting.{emit-stopped}
+use Rattle.emit.proofs.Emitting.{emit-stopped}
 use Rattle.sides.proofs.Pairing.{labelled-below}
 use Rattle.keys.proofs.Turning.{listed-keep, keep-high, flat-none, flat-split, from-nothing, end-none, up, tried, passed, told-part, front-part}
 

@@ -15,7 +15,7 @@ use Rattle.rules.specs.Index.{Group, keysOf, listOf, satisfies, directionsOf, e
 use Rattle.rules.specs.declared.Constraint.{Constraint}
 use Rattle.laws.specs.Keeping.{keep-most}
 use Rattle.joined.proofs.Nearby.{keep-all}
-use Rattle.keys.specs.Keyed.{Keyed, keyedFrom}
+use Rattle.emit.specs.Keyed.{Keyed, keyedFrom}
 use Rattle.sides.proofs.Twice.{keep-keep}
 use Rattle.keys.proofs.Going.{keyed-short, keyed-on}
 

@@ -20,11 +20,11 @@ use Rattle.laws.specs.Header.{header-limits, header-ends}
 use Rattle.joined.specs.Packed.{EdgesBelow, forwardWords, wordIn, labelledIn}
 use Rattle.joined.specs.Sound.{joinedSet, Sound}
 use Rattle.sides.specs.Left.{labelsLeft}
-use Rattle.keys.specs.Keyed.{keyedFrom}
-use Rattle.keys.specs.Emit.{sinkOf, Placed}
+use Rattle.emit.specs.Keyed.{keyedFrom}
+use Rattle.emit.specs.Emit.{sinkOf, Placed}
 use Rattle.keys.specs.Pass.{aboveFor, keyedBy, Right, nothing, passed}
-use Rattle.keys.specs.declared.Task.{Task}
-use Rattle.keys.specs.declared.Tally.{Tally}
+use Rattle.emit.specs.declared.Task.{Task}
+use Rattle.emit.specs.declared.Tally.{Tally}
 use Rattle.joined.proofs.Edges.{less-word, words-strict}
 use Rattle.keys.proofs.Groups.{keyedIn, toGroup, groups-of, satisfies-keyed, map-append, map-map}
 use Rattle.keys.proofs.Graphs.{graph-joined, graph-labelled, labels-of}

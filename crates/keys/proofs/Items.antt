@@ -18,14 +18,14 @@ use Rattle.rules.specs.declared.Constraint.{Constraint}
 use Rattle.rules.specs.declared.Entry.{Entry}
 use Rattle.laws.specs.Cases.{first-holds, second-holds}
 use Rattle.joined.specs.Packed.{wordIn}
-use Rattle.keys.specs.Keyed.{Keyed}
-use Rattle.keys.specs.Emit.{bitsOf, dirsOf, groupRecord, entryRecord, listRecords, Sink, sinkOf, within, counted, written, agrees, emitBy, emit, emitAll}
+use Rattle.emit.specs.Keyed.{Keyed}
+use Rattle.emit.specs.Emit.{bitsOf, dirsOf, groupRecord, entryRecord, listRecords, Sink, sinkOf, within, counted, written, agrees, emitBy, emit, emitAll}
 use Rattle.keys.specs.Pass.{taskFor, keyedBy, visited, visitedAll}
-use Rattle.keys.specs.declared.Task.{Task}
-use Rattle.keys.specs.declared.Tally.{Tally}
-use Rattle.keys.proofs.Records.{length-records}
+use Rattle.emit.specs.declared.Task.{Task}
+use Rattle.emit.specs.declared.Tally.{Tally}
+use Rattle.emit.proofs.Records.{length-records}
 use Rattle.keys.proofs.Groups.{toGroup}
-use Rattle.keys.proofs.Emitting.{emit-stopped, emit-over, emit-count}
+use Rattle.emit.proofs.Emitting.{emit-stopped, emit-over, emit-count}
 
 and-none : (a : Bool) → (a && false) ≡ false
 and-none true = refl

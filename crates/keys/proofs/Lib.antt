@@ -1,6 +1,3 @@
-pub mod Records
-pub mod Comparing
-mod Emitting
 pub mod Turning
 pub mod Going
 pub mod Passing

@@ -14,7 +14,7 @@ use Rattle.laws.specs.Keeping.{keep-most}
 use Rattle.joined.specs.Packed.{hasLabel, labelledIn}
 use Rattle.sides.specs.Left.{labelsLeft}
 use Rattle.keys.specs.Pass.{aboveFor, taskFor}
-use Rattle.keys.specs.declared.Task.{Task}
+use Rattle.emit.specs.declared.Task.{Task}
 use Rattle.joined.proofs.Ranges.{length-range}
 
 -- the task of a constraint

@@ -8,7 +8,7 @@ use borrow.Author.Tests.{eqb-true}
 use Rattle.rules.specs.Lists.{all, any, keep, has}
 use Rattle.laws.specs.Chosen.{flat-same}
 use Rattle.sides.specs.Useful.{reaches}
-use Rattle.keys.specs.Keyed.{keyedFrom}
+use Rattle.emit.specs.Keyed.{keyedFrom}
 use Rattle.sides.proofs.Twice.{keep-keep}
 use Rattle.keys.proofs.Groups.{keyed-flat}
 

@@ -14,12 +14,12 @@ use Rattle.rules.specs.Index.{groupBytes, entryBytes}
 use Rattle.rules.specs.Answers.{same}
 use Rattle.laws.specs.Over.{over-over, over-nil, length-over}
 use Rattle.laws.specs.Cases.{first-holds, second-holds}
-use Rattle.keys.specs.Emit.{groupRecord, listRecords, sinkOf, within, counted, written, agrees, emit}
-use Rattle.keys.specs.declared.Task.{Task}
-use Rattle.keys.specs.declared.Tally.{Tally}
-use Rattle.keys.proofs.Records.{length-records}
-use Rattle.keys.proofs.Comparing.{same-append}
-use Rattle.keys.proofs.Emitting.{emit-write, emit-compare}
+use Rattle.emit.specs.Emit.{groupRecord, listRecords, sinkOf, within, counted, written, agrees, emit}
+use Rattle.emit.specs.declared.Task.{Task}
+use Rattle.emit.specs.declared.Tally.{Tally}
+use Rattle.emit.proofs.Records.{length-records}
+use Rattle.emit.proofs.Comparing.{same-append}
+use Rattle.emit.proofs.Emitting.{emit-write, emit-compare}
 use Rattle.keys.proofs.Items.{Item, listIn, idsIn, short, total, emitItems, items-stopped, inside, Told, groupFor, group-bytes, entry-bytes, length-ids, length-groups, length-entries}
 
 -- two runs that don't meet may be written in either order

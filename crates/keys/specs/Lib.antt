@@ -1,4 +1,2 @@
-pub mod Keyed
-pub mod Emit
 pub mod Walk
 pub mod Pass

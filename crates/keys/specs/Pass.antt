@@ -13,10 +13,10 @@ use Rattle.joined.specs.Starts.{Climbs}
 use Rattle.joined.specs.Sound.{joinedSet}
 use Rattle.sides.specs.Side.{Arranged}
 use Rattle.sides.specs.Left.{labelsLeft}
-use Rattle.keys.specs.Keyed.{Keyed, keyedFrom}
-use Rattle.keys.specs.Emit.{Sink, sinkOf, emitAll}
-use Rattle.keys.specs.declared.Task.{Task}
-use Rattle.keys.specs.declared.Tally.{Tally}
+use Rattle.emit.specs.Keyed.{Keyed, keyedFrom}
+use Rattle.emit.specs.Emit.{Sink, sinkOf, emitAll}
+use Rattle.emit.specs.declared.Task.{Task}
+use Rattle.emit.specs.declared.Tally.{Tally}
 
 -- lists longer than this: than N where the task asks for it, else all that are not empty
 unfoldable pub aboveFor : Task → Constraint → ℕ

@@ -13,10 +13,10 @@ use Rattle.joined.specs.Starts.{Edged}
 use Rattle.sides.specs.Side.{Held, Listed}
 use Rattle.sides.specs.declared.Labels.{Labels}
 use Rattle.sides.specs.Left.{labelsIn}
-use Rattle.keys.specs.Keyed.{Keyed, keyedFrom}
-use Rattle.keys.specs.Emit.{idsOf, Placed, sinkOf, emitAll}
-use Rattle.keys.specs.declared.Task.{Task}
-use Rattle.keys.specs.declared.Tally.{Tally}
+use Rattle.emit.specs.Keyed.{Keyed, keyedFrom}
+use Rattle.emit.specs.Emit.{idsOf, Placed, sinkOf, emitAll}
+use Rattle.emit.specs.declared.Task.{Task}
+use Rattle.emit.specs.declared.Tally.{Tally}
 
 -- the key with u as its id number at
 unfoldable pub withId : Key → ℕ → ℕ → Key

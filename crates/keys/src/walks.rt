@@ -1,7 +1,6 @@
 // The walk over the keys of a constraint, one label of S after another.
-use crate::Tally;
-use crate::Task;
-use crate::emit::emit_one;
+use emit::Tally;
+use emit::Task;
 use rules::Key;
 use sides::Labels;
 ghost use mathlib.Core.Path.{_≡_};
@@ -77,7 +76,7 @@ pub fn walk(
         return tally;
     }
     if left.first == 0 {
-        return emit_one(task, edges, begins, key, list, store, room, tally);
+        return emit::emit_one(task, edges, begins, key, list, store, room, tally);
     }
     let n = sides::paired(nodes, joined, starts, list, left.first, l, first, one);
     let mut none = [0u32; 1];

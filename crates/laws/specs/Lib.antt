@@ -11,6 +11,7 @@ pub mod Halving
 pub mod Turns
 pub mod Cases
 pub mod Over
+pub mod Rooms
 pub mod Header
 pub mod Fitness
 pub mod Parts

@@ -1,3 +1,1 @@
-pub mod Noting
-pub mod Sounding
-pub mod Outcomes
+mod Outcomes

@@ -1,4 +1,3 @@
 mod Ascending
 mod Merged
 mod Settling
-mod Keeping

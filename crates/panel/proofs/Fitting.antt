@@ -16,7 +16,7 @@ use Rattle.rules.specs.Listing.{Gathered, matchesOf}
 use Rattle.rules.specs.declared.Listed.{Listed}
 use Rattle.rules.specs.Answers.{Outcome, answered, refused, outcome, boundNumber, gathered, cleared, readOutcome, listRefusal, listOutcome}
 use Rattle.laws.specs.PatternLaws.{RightHeader, pattern-says}
-use Rattle.list.specs.Listings.{told}
+use Rattle.listed.specs.Reading.{told}
 use Rattle.io.specs.Counts.{Counts}
 use Rattle.text.specs.Text.{Wrote}
 use Rattle.text.specs.TextLaws.{wrote-then}

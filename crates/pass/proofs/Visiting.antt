@@ -24,12 +24,12 @@ use Rattle.sides.specs.Side.{Arranged, sideOf, Listed}
 use Rattle.sides.specs.Useful.{reaches}
 use Rattle.sides.specs.Left.{labelsLeft, labelsIn}
 use Rattle.sides.specs.declared.Labels.{Labels}
-use Rattle.keys.specs.Keyed.{Keyed, keyedFrom}
-use Rattle.keys.specs.Emit.{Sink, sinkOf, emitAll, Placed}
+use Rattle.emit.specs.Keyed.{Keyed, keyedFrom}
+use Rattle.emit.specs.Emit.{Sink, sinkOf, emitAll, Placed}
 use Rattle.keys.specs.Walk.{withId, chosen, Fit, Done}
 use Rattle.keys.specs.Pass.{taskFor, keyedBy, visited, visitedAll, nothing, passed}
-use Rattle.keys.specs.declared.Task.{Task}
-use Rattle.keys.specs.declared.Tally.{Tally}
+use Rattle.emit.specs.declared.Task.{Task}
+use Rattle.emit.specs.declared.Tally.{Tally}
 use Rattle.pass.specs.Ready.{dealt, Fresh, Ready}
 use Rattle.joined.proofs.Nearby.{labelled-strict}
 use Rattle.sides.proofs.Pairing.{labelled-below}

@@ -9,10 +9,10 @@ use Rattle.rules.specs.declared.Key.{Key}
 use Rattle.joined.specs.Packed.{wordIn, labelledIn}
 use Rattle.joined.specs.Starts.{Edged}
 use Rattle.sides.specs.Side.{Held}
-use Rattle.keys.specs.Keyed.{keyedFrom}
-use Rattle.keys.specs.Emit.{idsOf, Placed, Sink, emitAll}
+use Rattle.emit.specs.Keyed.{keyedFrom}
+use Rattle.emit.specs.Emit.{idsOf, Placed, Sink, emitAll}
 use Rattle.keys.specs.Walk.{chosen}
-use Rattle.keys.specs.declared.Task.{Task}
+use Rattle.emit.specs.declared.Task.{Task}
 
 -- the keys that begin with these ids and go on with nodes of the labels, `list` being the list of these ids, are dealt with
 unfoldable pub dealt : Task → List ℕ → List ℕ → List ℕ → List ℕ → Key → List ℕ → List ℕ → List ℕ → Sink → Sink

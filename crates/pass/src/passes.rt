@@ -1,6 +1,6 @@
 // A pass over all constraints of a graph: a walk over the keys of each.
-use keys::Tally;
-use keys::Task;
+use emit::Tally;
+use emit::Task;
 use rules::Constraint;
 use rules::Key;
 use sides::Labels;
@@ -13,7 +13,7 @@ ghost use Rattle.rules.specs.Store.{constraintsIn};
 ghost use Rattle.joined.specs.Packed.{forwardWords, labelledIn};
 ghost use Rattle.sides.specs.Side.{sideOf};
 ghost use Rattle.sides.specs.Left.{labelsIn};
-ghost use Rattle.keys.specs.Emit.{sinkOf, Placed};
+ghost use Rattle.emit.specs.Emit.{sinkOf, Placed};
 ghost use Rattle.keys.specs.Pass.{taskFor, visited, visitedAll, Laid, passed};
 ghost use Rattle.pass.specs.Ready.{Fresh, Ready, dealt};
 

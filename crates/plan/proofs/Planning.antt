@@ -1,13 +1,13 @@
 -- What the tests of these functions come to. Assumes nothing.
 use mathlib.Core.Path.{_≡_, refl, sym, ap, _∙_}
-use mathlib.Core.Bool.{Bool, true, false, cond, not, _&&_}
+use mathlib.Core.Bool.{Bool, true, false, not}
 use mathlib.Core.List.{List, [], _∷_, _++_, map, flatMap, append-assoc}
 use mathlib.Core.Option.{Option, some, none}
 use Prim.Native.Nat.{ℕ, zero, suc, _+_, _-_, _*_, _≤_, _<_}
 use native.Mathlib.Nat.{zero-add}
 use native.Mathlib.Omega.{arith}
 use lib.Dec.{eqb, leb}
-use lib.ListN.{length, getD, take, drop, replicate, length-append, length-take}
+use lib.ListN.{length, take, drop, replicate, length-append, length-take}
 use lib.Seq.{take-append-seam}
 use borrow.Author.Tests.{not-true, not-false, ne-eqb, eq-eqb, le-leb, lt-leb}
 use Rattle.rules.specs.Words.{over}
@@ -17,18 +17,18 @@ use Rattle.rules.specs.Pattern.{sizeOf, edgesOf, patternLabel, patternRight}
 use Rattle.rules.specs.Plan.{noFigures, figuresWith, smallest, allWays, nodeRowsFrom, nodeRows, edgeWays, figuresOf, listed, edgeRows, rowsOf, allCovered, bound, rowWords, planWords}
 use Rattle.rules.specs.Answers.{Outcome, answered, refused, outcome, boundNumber, planNumber, planOutcome}
 use Rattle.rules.specs.declared.Row.{Row}
-use Rattle.laws.specs.Cases.{first-holds, second-holds}
+use Rattle.laws.specs.Cases.{first-holds}
 use Rattle.laws.specs.Each.{all-each}
 use Rattle.laws.specs.PatternLaws.{pattern-says, node-says, edge-says}
 use Rattle.laws.specs.Table.{Neighbours, Ends, right-ends}
 use Rattle.ways.specs.Ways.{Known}
-use Rattle.cover.specs.Given.{Given}
-use Rattle.rows.specs.Rows.{total, Written, Standing, NodesDone, EdgesDone}
+use Rattle.ways.specs.Given.{Given}
+use Rattle.rows.specs.Rows.{total, NodesDone, EdgesDone}
 use Rattle.rows.specs.declared.Stand.{Stand}
 use Rattle.laws.specs.Over.{over-over}
 use Rattle.laws.specs.Header.{header-limits}
 use Rattle.laws.specs.Parts.{constraints-in}
-use Rattle.plan.specs.Plans.{refusedPlan, answeredPlan, boundedPlan, coveredPlan, planOf, told}
+use Rattle.plan.specs.Plans.{refusedPlan, answeredPlan, boundedPlan, coveredPlan, planOf}
 use Rattle.plan.specs.declared.PlanRows.{PlanRows}
 
 -- ---- what right constraints and a right pattern give
@@ -161,7 +161,7 @@ module _ (constraints b rows₀ rows : List ℕ) (s : Stand) (nodes : NodesDone 
         plan-answered constraints b _ (omega arith) (rw (k, count-told fit, words-told fit room, zeros))
 
 -- ---- the outcome of planning
-number-told : (constraints b : List ℕ) → planOf constraints b .number ≡ boundNumber constraints b
+pub number-told : (constraints b : List ℕ) → planOf constraints b .number ≡ boundNumber constraints b
 unfolding planOf coveredPlan boundedPlan answeredPlan refusedPlan boundNumber
 number-told constraints b = go (constraintsRight constraints) refl (patternRight b) refl (allCovered constraints b) refl (leb (bound constraints b) 65536) refl
   where

@@ -6,7 +6,7 @@ ghost use lib.ListN.{length};
 ghost use Rattle.rules.specs.Store.{constraintsIn};
 ghost use Rattle.rules.specs.Pattern.{sizeOf, edgesOf};
 ghost use Rattle.rules.specs.Answers.{planOutcome};
-ghost use Rattle.cover.specs.Given.{Given};
+ghost use Rattle.ways.specs.Given.{Given};
 ghost use Rattle.plan.specs.Plans.{refusedPlan, boundedPlan, coveredPlan, planOf, told};
 
 // A plan, or a refusal: the number, the bound T, how many words the rows have, and the words.

@@ -6,7 +6,7 @@ ghost use Prim.Native.Nat.{_+_, _≤_};
 ghost use lib.ListN.{length};
 ghost use Rattle.rules.specs.Words.{over};
 ghost use Rattle.rules.specs.Plan.{rowWords};
-ghost use Rattle.cover.specs.Given.{Given};
+ghost use Rattle.ways.specs.Given.{Given};
 ghost use Rattle.rows.specs.Rows.{standOf, Standing, NodesDone, EdgesDone};
 
 // How far the rows have come: the figures of the nodes, rows written, the sum of their figures; `fits` says that none is above 65,536.

@@ -7,7 +7,7 @@ use mathlib.Core.Bool.{Bool, true, false, cond, _||_, true≢false, false≢true
 use mathlib.Core.List.{List, [], _∷_, _++_, map, append-nil, append-assoc, map-map, map-id}
 use Prim.Native.Nat.{ℕ, zero, suc, _+_, _-_, _*_, _/_, _%_, _≤_, _<_}
 use lib.Dec.{eqb, leb}
-use lib.ListN.{length, take, drop, getD, set, length-set, length-append, length-map, length-drop, take-append-drop, drop-of-length-le, replicate, length-replicate}
+use lib.ListN.{length, take, drop, getD, set, length-set, length-append, length-map, length-drop, take-append-drop, drop-of-length-le}
 use lib.Seq.{take-suc-set, drop-set-lt, drop-drop, drop-at, take-at, append-snoc, getD-take, getD-drop, take-all, length-take-le}
 use borrow.Rule.Slice.PartMut.{putMid}
 use borrow.Author.Tests.{le-leb, lt-leb, eq-eqb, ne-eqb, eqb-true}
@@ -403,10 +403,6 @@ module _ (s : List ℕ) (r : ℕ) (up : Strict s) (some : 0 < r) (within : r ≤
       sort-apart (placeOf nodes) ((v + 1) * 4294967296) (take r s) (drop r s)
       (λ z q. place-below nodes few (v + 1) z (omega (arith, run-mine z q))) (λ z q. place-from nodes few (v + 1) z (run-rest z q)) in
       rw e (ap (λ l. l ++ arrangedAll nodes (drop r s)) one ∙ sym apart ∙ ap (sortBy (placeOf nodes)) (take-append-drop r s))
-
--- a new room has its words
-pub new-room : (n a : ℕ) → n ≤ length (replicate n a)
-new-room n a = rw length-replicate (omega arith)
 
 -- ---- one node, in the words of the code: the keys, sorted, and the words made from them
 pub by-keys : (nodes w keys keyed sorted out : List ℕ) (v : ℕ) → keyed ≡ map (keyOf nodes) w ++ drop (length w) keys → sorted ≡ sortOf (take (length w) keyed)

@@ -1,14 +1,14 @@
 // Refusal 1: the header of a store and of a draft.
-use crate::parts::constraint_count;
-use crate::parts::constraints_at;
-use crate::parts::edge_count;
-use crate::parts::edges_at;
-use crate::parts::end_at;
-use crate::parts::entries_at;
-use crate::parts::entry_count;
-use crate::parts::group_count;
-use crate::parts::groups_at;
-use crate::parts::node_count;
+use sections::constraint_count;
+use sections::constraints_at;
+use sections::edge_count;
+use sections::edges_at;
+use sections::end_at;
+use sections::entries_at;
+use sections::entry_count;
+use sections::group_count;
+use sections::groups_at;
+use sections::node_count;
 ghost use mathlib.Core.Path.{_≡_};
 ghost use mathlib.Core.Bool.{_&&_};
 ghost use Prim.Native.Nat.{_+_, _≤_};

@@ -1,20 +1,19 @@
 -- What the tests of the functions on ways come to. Assumes nothing.
 use mathlib.Core.Path.{_≡_, refl, sym, ap, _∙_}
-use mathlib.Core.Bool.{Bool, true, false, cond, not, _&&_, _||_}
-use mathlib.Core.List.{List, [], _∷_, _++_, map, flatMap}
+use mathlib.Core.Bool.{Bool, true, false, cond, not, _&&_}
+use mathlib.Core.List.{List, [], _∷_, flatMap}
 use mathlib.Core.Option.{Option, some, none}
 use Prim.Native.Nat.{ℕ, _+_, _*_, _-_, _≤_, _<_}
 use native.Mathlib.Nat.{mul-le-mul}
 use native.Mathlib.Omega.{arith}
-use borrow.Author.Needs.{needs}
-use lib.Dec.{eqb, ltb}
-use lib.ListN.{length, getD}
+use lib.Dec.{eqb}
+use lib.ListN.{getD}
 use borrow.Author.Tests.{not-true, not-false, lt-ltb, le-ltb, eq-eqb, ne-eqb}
-use Rattle.rules.specs.Lists.{range, keep}
-use Rattle.rules.specs.Pattern.{sizeOf, patternLabel, joined}
+use Rattle.rules.specs.Lists.{range}
+use Rattle.rules.specs.Pattern.{sizeOf, patternLabel}
 use Rattle.rules.specs.Plan.{figureOf, covered, coveredWith, smaller, smallest, rowOf}
 use Rattle.rules.specs.declared.Row.{Row}
-use Rattle.laws.specs.Smallest.{better, better-none, map-keep, BestLeft, best-start, best-next, best-done}
+use Rattle.laws.specs.Smallest.{better, better-none, map-keep, BestLeft, best-start, best-next}
 use Rattle.laws.specs.Choices.{nodeOnly, least}
 use Rattle.ways.specs.Ways.{wayIn, taken, slotOf, rowBy, wayBy, suited, Known}
 use Rattle.ways.specs.declared.Best.{Best}

@@ -1,27 +1,25 @@
 -- What a node's ways by a constraint, and an edge's, come to: the best slots. Assumes nothing.
 use mathlib.Core.Path.{_≡_, refl, sym, ap, subst, _∙_}
-use mathlib.Core.Bool.{Bool, true, false, cond, not, _&&_, _||_, false≢true, true≢false, or-true, or-false, or-assoc, and-true, and-false}
-use mathlib.Core.List.{List, [], _∷_, _++_, map, flatMap}
+use mathlib.Core.Bool.{Bool, true, false, cond, not, _&&_, _||_, false≢true, or-true, or-false, or-assoc, and-true, and-false}
+use mathlib.Core.List.{List, [], _∷_, _++_, map}
 use mathlib.Core.Option.{Option, some, none}
-use Prim.Native.Nat.{ℕ, zero, suc, _+_, _*_, _≤_, _<_}
-use native.Mathlib.Nat.{mul-one, mul-assoc}
+use Prim.Native.Nat.{ℕ, zero, suc, _+_, _≤_, _<_}
 use native.Mathlib.Decide.{decLe}
 use native.Mathlib.Numerals.{add-one}
 use native.Mathlib.Omega.{arith}
 use lib.Dec.{eqb, ltb, leb}
-use lib.ListN.{length, getD}
-use borrow.Author.Tests.{eqb-true, eqb-false, eq-eqb, ne-eqb, leb-true, ltb-true, lt-ltb, not-true, not-false}
-use Rattle.rules.specs.Lists.{range, all, any, keep, has, product, choices, From}
-use Rattle.rules.specs.Store.{labelsOf, labelAfter, constraintAlone, constraintAt}
-use Rattle.rules.specs.Pattern.{sizeOf, edgesOf, patternLabel, joined}
-use Rattle.rules.specs.Plan.{figureOf, covered, coveredWith, waysBy, figureBy, smaller, smallest, rowOf}
+use borrow.Author.Tests.{eqb-true, eq-eqb, ne-eqb, leb-true, ltb-true, not-true, not-false}
+use Rattle.rules.specs.Lists.{range, all, any, keep, has, choices, From}
+use Rattle.rules.specs.Store.{labelsOf, labelAfter, constraintAlone}
+use Rattle.rules.specs.Pattern.{sizeOf, patternLabel, joined}
+use Rattle.rules.specs.Plan.{figureOf, covered, coveredWith, waysBy, smallest, rowOf}
 use Rattle.rules.specs.declared.Row.{Row}
 use Rattle.rules.specs.declared.Constraint.{Constraint}
 use Rattle.laws.specs.Cases.{first-holds, second-holds}
-use Rattle.laws.specs.Choices.{least, nodeOnly, via, leastEach, each-smallest, GoodIf, least-good}
+use Rattle.laws.specs.Choices.{least, nodeOnly, each-smallest, GoodIf, least-good}
 use Rattle.laws.specs.Chosen.{narrow, Once, keep-has, strict-once}
 use Rattle.laws.specs.Members.{has-keep, keep-from}
-use Rattle.ways.specs.Ways.{wayIn, taken, slotOf, wayBy, suited, Known, Small, nodeBy, endBy, nodeSlots, endSlots}
+use Rattle.ways.specs.Ways.{taken, slotOf, wayBy, suited, Small}
 use Rattle.ways.specs.declared.Slot.{Slot}
 use Rattle.ways.proofs.Slots.{made, slots-way, second-zero, third-zero, orders}
 

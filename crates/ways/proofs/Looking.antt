@@ -1,20 +1,20 @@
 -- What the functions that look for the best way tell, in the words of their tests and callees. Assumes nothing.
 use mathlib.Core.Path.{_≡_, refl, sym, ap, _∙_}
-use mathlib.Core.Bool.{Bool, true, false, cond, not, _&&_, _||_}
-use mathlib.Core.List.{List, [], _∷_, _++_, map, flatMap, append-nil}
-use mathlib.Core.Option.{Option, some, none}
-use Prim.Native.Nat.{ℕ, _+_, _*_, _≤_, _<_}
+use mathlib.Core.Bool.{Bool, true, false, cond, not, _||_}
+use mathlib.Core.List.{List, [], _∷_, flatMap, append-nil}
+use mathlib.Core.Option.{Option, none}
+use Prim.Native.Nat.{ℕ, _≤_, _<_}
 use native.Mathlib.Omega.{arith}
-use lib.Dec.{eqb, ltb, leb}
-use lib.ListN.{length, getD}
+use lib.Dec.{eqb}
+use lib.ListN.{getD}
 use borrow.Author.Tests.{eqb-true, eq-eqb, ne-eqb, lt-ltb, le-ltb}
-use Rattle.rules.specs.Lists.{range, keep, has}
+use Rattle.rules.specs.Lists.{range}
 use Rattle.rules.specs.Store.{constraintsIn, constraintAlone, constraintAt}
 use Rattle.rules.specs.Pattern.{sizeOf, edgesOf, patternLabel, patternFrom, patternTo}
-use Rattle.rules.specs.Plan.{figureOf, covered, waysBy, figureBy, smallest, rowOf, nodeWays, allWays, endsOf, otherEnd, endWays, edgeWays}
+use Rattle.rules.specs.Plan.{covered, figureBy, smallest, nodeWays, allWays, endsOf, otherEnd, endWays, edgeWays}
 use Rattle.rules.specs.declared.Row.{Row}
 use Rattle.rules.specs.declared.Constraint.{Constraint}
-use Rattle.laws.specs.Smallest.{better, better-none, smallest-append, BestLeft, best-start, flat-keep}
+use Rattle.laws.specs.Smallest.{better, smallest-append, BestLeft, best-start, flat-keep}
 use Rattle.ways.specs.Ways.{Known, suited, nodeBy, endBy, nodeSlots, endSlots}
 use Rattle.ways.proofs.Ends.{label-differs, node-made, end-differs, end-missing, end-made}
 

@@ -1,14 +1,11 @@
 -- Three slots, one for each label of S with none for a label 0, make the smallest way of a constraint. Assumes nothing.
-use mathlib.Core.Path.{_≡_, refl, sym, ap, _∙_}
-use mathlib.Core.Bool.{Bool, true, false, cond, not, _&&_, _||_, false≢true}
-use mathlib.Core.List.{List, [], _∷_, _++_, map, flatMap}
+use mathlib.Core.Path.{_≡_, refl, ap}
+use mathlib.Core.Bool.{Bool, true, false, not, _&&_, _||_, false≢true}
+use mathlib.Core.List.{List, [], _∷_, map}
 use mathlib.Core.Option.{Option, some, none}
-use Prim.Native.Nat.{ℕ, _+_, _*_, _≤_, _<_}
+use Prim.Native.Nat.{ℕ, _*_}
 use native.Mathlib.Nat.{mul-one, mul-assoc}
-use native.Mathlib.Omega.{arith}
 use lib.Dec.{eqb, ltb, leb}
-use lib.ListN.{length, getD}
-use borrow.Author.Tests.{eqb-true, eqb-false, eq-eqb, leb-true}
 use Rattle.rules.specs.Lists.{all, keep, product}
 use Rattle.rules.specs.Store.{labelsOf, labelAfter, constraintAlone}
 use Rattle.rules.specs.Plan.{rowOf}
@@ -16,7 +13,7 @@ use Rattle.rules.specs.declared.Row.{Row}
 use Rattle.rules.specs.declared.Constraint.{Constraint}
 use Rattle.laws.specs.Cases.{first-holds, second-holds}
 use Rattle.laws.specs.Choices.{least, via, leastEach, GoodIf, least-good}
-use Rattle.ways.specs.Ways.{taken, slotOf, rowBy, wayBy}
+use Rattle.ways.specs.Ways.{taken, slotOf, wayBy}
 use Rattle.ways.specs.declared.Slot.{Slot}
 
 -- a slot that no label asks for

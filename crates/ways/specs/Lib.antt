@@ -1,2 +1,3 @@
 -- What the contracts of this crate cite beside the rules. Assumes nothing.
 pub mod Ways
+pub mod Given

@@ -4,7 +4,7 @@ use native.Mathlib.Omega.{arith}
 use mathlib.Core.Path.{sym, _∙_}
 use lib.ListN.{length-take}
 use borrow.Author.Tests.{not-false}
-use Rattle.joined.proofs.Sections.{new-fits}
+use Rattle.laws.specs.Rooms.{new-fits, new-long}
 use Rattle.keys.proofs.Index.{right-sound}
 use Rattle.build.proofs.Numbers.{early-number, early-right}
 use Rattle.build.proofs.Laying.{front-short}
@@ -46,5 +46,5 @@ returns-3 c = c .before .admit-with .ensures
 pub admit-spec : {M : Type 1} → statement M
 admit-spec =
     tie.close
-    (tie.spec (λ c κs. search needs) returns record-number-requires returns-2 (λ c. search needs) own-joined-requires (λ c. search needs) slice-aggregate-admit-with
+    (tie.spec (λ c κs. search needs) returns record-number-requires returns-2 (λ c. new-long 524288 0) own-joined-requires (λ c. c .before .own-joined .ensures .0) slice-aggregate-admit-with
     admit-with-requires returns-3)

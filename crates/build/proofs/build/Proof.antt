@@ -5,7 +5,7 @@ use mathlib.Core.Path.{sym, _∙_}
 use lib.ListN.{length-take}
 use borrow.Author.Tests.{not-false}
 use Rattle.laws.specs.Header.{draft-header}
-use Rattle.joined.proofs.Sections.{new-fits}
+use Rattle.laws.specs.Rooms.{new-fits, new-long}
 use Rattle.keys.proofs.Index.{right-sound}
 use Rattle.build.proofs.Numbers.{early-number, early-right}
 use Rattle.build.proofs.Laying.{front-short}
@@ -46,5 +46,5 @@ returns-3 c = c .before .before .before .build-with .ensures
 pub build-spec : {M : Type 1} → statement M
 build-spec =
     tie.close
-    (tie.spec (λ c κs. search needs) returns record-number-requires returns-2 (λ c. search needs) own-joined-requires (λ c. search needs) slice-aggregate-build-with
+    (tie.spec (λ c κs. search needs) returns record-number-requires returns-2 (λ c. new-long 524288 0) own-joined-requires (λ c. c .before .own-joined .ensures .0) slice-aggregate-build-with
     build-with-requires (λ c. search needs) returns-3)

@@ -1,6 +1,6 @@
 -- `cover::all_covered` meets its contract. Assumes nothing.
 use borrow.Author.Needs.{needs}
-use Rattle.cover.specs.Given.{given-ready}
+use Rattle.ways.specs.Given.{given-ready}
 use Rattle.cover.proofs.Told.{nodes-missing, edges-decide, ones-small}
 use Rattle.cover.proofs.all_covered.Statement.{statement}
 use Rattle.cover.proofs.all_covered.Tie as tie

@@ -2,7 +2,7 @@
 use Prim.Native.Nat.{_-_}
 use native.Mathlib.Omega.{arith}
 use borrow.Author.Needs.{needs}
-use Rattle.cover.specs.Given.{given-ready}
+use Rattle.ways.specs.Given.{given-ready}
 use Rattle.cover.proofs.Told.{CoverLeft, left-small, cover-start, cover-stopped, cover-number, cover-again, cover-done}
 use Rattle.cover.proofs.cover.Statement.{statement}
 use Rattle.cover.proofs.cover.Tie as tie

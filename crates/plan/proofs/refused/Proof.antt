@@ -1,5 +1,4 @@
 -- `plan::refused` meets its contract. Assumes nothing.
-use borrow.Author.Needs.{needs}
 use mathlib.Core.Path.{refl}
 use Rattle.plan.specs.Plans.{refusedPlan}
 use Rattle.plan.proofs.refused.Statement.{statement}

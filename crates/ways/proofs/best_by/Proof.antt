@@ -1,6 +1,5 @@
 -- `ways::best_by` meets its contract. Assumes nothing.
 use borrow.Author.Needs.{needs}
-use native.Mathlib.Omega.{arith}
 use Rattle.ways.proofs.Looking.{from-below, to-below, from-first, to-first}
 use Rattle.ways.proofs.best_by.Statement.{statement}
 use Rattle.ways.proofs.best_by.Tie as tie

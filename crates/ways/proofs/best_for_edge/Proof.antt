@@ -7,7 +7,7 @@ use Rattle.rules.specs.Store.{constraintsIn}
 use Rattle.rules.specs.Plan.{smallest, endsOf, endWays, edgeWays}
 use Rattle.ways.proofs.Looking.{best-begin, edge-flat}
 use Rattle.laws.specs.Smallest.{BestLeft, best-done}
-use Rattle.ways.specs.Ways.{wayIn, nodeBy}
+use Rattle.ways.specs.Ways.{wayIn}
 use Rattle.ways.proofs.Choosing.{best-step}
 use Rattle.ways.proofs.best_for_edge.Statement.{statement}
 use Rattle.ways.proofs.best_for_edge.Tie as tie

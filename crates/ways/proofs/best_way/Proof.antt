@@ -8,7 +8,7 @@ use Rattle.rules.specs.Pattern.{sizeOf}
 use Rattle.rules.specs.Plan.{smallest, covered, nodeWays, allWays}
 use Rattle.ways.proofs.Looking.{best-begin, all-flat}
 use Rattle.laws.specs.Smallest.{BestLeft, best-done}
-use Rattle.ways.specs.Ways.{wayIn, nodeBy}
+use Rattle.ways.specs.Ways.{wayIn}
 use Rattle.ways.proofs.Choosing.{best-step}
 use Rattle.ways.proofs.best_way.Statement.{statement}
 use Rattle.ways.proofs.best_way.Tie as tie

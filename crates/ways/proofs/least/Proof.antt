@@ -1,5 +1,5 @@
 -- `ways::least` meets its contract. Invariant: what is left decides the best node. Assumes nothing.
-use Prim.Native.Nat.{_-_, _<_, _≤_}
+use Prim.Native.Nat.{_-_}
 use native.Mathlib.Omega.{arith}
 use mathlib.Core.Bool.{cond}
 use mathlib.Core.List.{[], _∷_}

@@ -1,6 +1,5 @@
 -- `ways::suits_one` meets its contract. Assumes nothing.
 use borrow.Author.Needs.{needs}
-use mathlib.Core.Path.{_≡_, refl, sym, ap, _∙_}
 use Rattle.ways.proofs.suits_one.Statement.{statement}
 use Rattle.ways.proofs.suits_one.Tie as tie
 

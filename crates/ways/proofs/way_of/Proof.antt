@@ -1,6 +1,5 @@
 -- `ways::way_of` meets its contract. Assumes nothing.
 use mathlib.Core.Path.{_∙_}
-use native.Mathlib.Omega.{arith}
 use borrow.Author.Needs.{needs}
 use Rattle.ways.proofs.Choosing.{two-fit, three-fit, four-fit, way-made, way-missing}
 use Rattle.ways.proofs.way_of.Statement.{statement}

@@ -1,6 +1,6 @@
 -- `exceed::exceed::some_exceeds` meets its contract. Assumes nothing.
 use borrow.Author.Needs.{needs}
-use Rattle.joined.proofs.Sections.{new-fits}
+use Rattle.laws.specs.Rooms.{new-fits, new-long}
 use Rattle.keys.proofs.Index.{right-sound}
 use Rattle.exceed.proofs.Exceeds.{ample-own, exceeds-told}
 use Rattle.exceed.proofs.exceed.some_exceeds.Statement.{statement}
@@ -23,5 +23,5 @@ returns c = exceeds-told (c .before .before .before .before .before .before .bef
 pub some-exceeds-spec : {M : Type 1} → statement M
 some-exceeds-spec =
     tie.close
-    (tie.spec node-part-requires constraint-part-requires (λ c. search needs) (λ c. search needs) (λ c. search needs) (λ c. search needs)
-    (λ c. search needs) (λ c. search needs) (λ c. search needs) exceeds-in-requires returns)
+    (tie.spec node-part-requires constraint-part-requires (λ c. new-long 65536 0) (λ c. new-long 65536 0) (λ c. new-long 65536 0) (λ c. new-long 65536 0)
+    (λ c. new-long 65536 0) (λ c. new-long 65536 0) (λ c. new-long 65536 0) exceeds-in-requires returns)

@@ -16,7 +16,7 @@ use Rattle.keys.proofs.Going.{Going, labels-fall, fit-next, begun, asce
 use Rattle.keys.proofs.walks.walk.Reads as walk
 use Rattle.keys.proofs.walks.walk.Kinds as walk-kinds
 use Rattle.keys.proofs.walks.+walk.Lts-walk as walk-lts
-use Rattle.keys.proofs.emit.emit_one.Reads as emit-one-reads
+use Rattle.emit.proofs.emit_one.Reads as emit-one-reads
 use Rattle.keys.proofs.walks.rest_of.Reads as rest-of-reads
 use Rattle.keys.proofs.walks.with_id.Reads as with-id-reads
 use Rattle.keys.proofs.walks.+walk.{statement}

@@ -1,6 +1,7 @@
 -- `pass::passes::pass` meets its contract. Assumes nothing.
 use borrow.Author.Needs.{needs}
-use Rattle.joined.proofs.Sections.{edges-fit, new-fits}
+use Rattle.laws.specs.Rooms.{new-fits, new-long, kept-long}
+use Rattle.joined.proofs.Sections.{edges-fit}
 use Rattle.keys.proofs.Index.{right-sound}
 use Rattle.keys.proofs.Graphs.{own-both}
 use Rattle.pass.proofs.Visiting.{ready-pass, pass-done}
@@ -23,13 +24,13 @@ constraint-part-requires c κs =
     search needs
 
 slice-aggregate-put-starts : tie.Need-slice-aggregate-put-starts
-slice-aggregate-put-starts c = search needs
+slice-aggregate-put-starts c = new-long 65536 0
 
 put-starts-requires : tie.Need-put-starts-requires
 put-starts-requires c κs = search needs
 
 slice-aggregate-put-begins : tie.Need-slice-aggregate-put-begins
-slice-aggregate-put-begins c = search needs
+slice-aggregate-put-begins c = new-long 65536 0
 
 put-begins-requires : tie.Need-put-begins-requires
 put-begins-requires c κs =
@@ -37,25 +38,29 @@ put-begins-requires c κs =
     ((e .0, new-fits 65536 0), e .1)
 
 slice-aggregate-visit-all : tie.Need-slice-aggregate-visit-all
-slice-aggregate-visit-all c = search needs
+slice-aggregate-visit-all c =
+    let call = c .before .before .before .before .before .put-starts in
+    kept-long 65536 0 (call .last .1 .0) (call .kept .1 .0)
 
 slice-aggregate-visit-all-2 : tie.Need-slice-aggregate-visit-all-2
-slice-aggregate-visit-all-2 c = search needs
+slice-aggregate-visit-all-2 c =
+    let call = c .before .before .before .put-begins in
+    kept-long 65536 0 (call .last .1 .0) (call .kept .1 .0)
 
 slice-aggregate-visit-all-3 : tie.Need-slice-aggregate-visit-all-3
-slice-aggregate-visit-all-3 c = search needs
+slice-aggregate-visit-all-3 c = new-long 65536 0
 
 slice-aggregate-visit-all-4 : tie.Need-slice-aggregate-visit-all-4
-slice-aggregate-visit-all-4 c = search needs
+slice-aggregate-visit-all-4 c = new-long 65536 0
 
 slice-aggregate-visit-all-5 : tie.Need-slice-aggregate-visit-all-5
-slice-aggregate-visit-all-5 c = search needs
+slice-aggregate-visit-all-5 c = new-long 65536 0
 
 slice-aggregate-visit-all-6 : tie.Need-slice-aggregate-visit-all-6
-slice-aggregate-visit-all-6 c = search needs
+slice-aggregate-visit-all-6 c = new-long 65536 0
 
 slice-aggregate-visit-all-7 : tie.Need-slice-aggregate-visit-all-7
-slice-aggregate-visit-all-7 c = search needs
+slice-aggregate-visit-all-7 c = new-long 65536 0
 
 visit-all-requires : tie.Need-visit-all-requires
 visit-all-requires c κs =

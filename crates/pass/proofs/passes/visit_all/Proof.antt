@@ -4,9 +4,9 @@ use Rattle.rules.specs.Store.{constraintsIn}
 use Rattle.rules.specs.Lists.{setOf}
 use Rattle.laws.specs.Loops.{FoldLeft, fold-start, fold-next, fold-done}
 use Rattle.joined.specs.Packed.{forwardWords}
-use Rattle.keys.specs.declared.Task.{Task}
+use Rattle.emit.specs.declared.Task.{Task}
 use Rattle.keys.specs.Pass.{visited, visitedAll}
-use Rattle.keys.specs.Emit.{Sink, sinkOf}
+use Rattle.emit.specs.Emit.{Sink, sinkOf}
 use Rattle.pass.proofs.Visiting.{ready-same}
 use lib.ListN.{length}
 use Prim.Native.Nat.{ℕ, _-_}

@@ -1,12 +1,13 @@
 -- `sides::places::arrange` meets its contract. Assumes nothing.
 use borrow.Author.Needs.{needs}
 use native.Mathlib.Omega.{arith}
-use Rattle.sides.proofs.Arranging.{new-room, small, arranged}
+use Rattle.laws.specs.Rooms.{new-long, new-fits}
+use Rattle.sides.proofs.Arranging.{small, arranged}
 use Rattle.sides.proofs.places.arrange.Statement.{statement}
 use Rattle.sides.proofs.places.arrange.Tie as tie
 
 arrange-all-requires : tie.Need-arrange-all-requires
-arrange-all-requires c κs = ((new-room 65536 0, new-room 65536 0), c .before .before .before .before .before .pre .1)
+arrange-all-requires c κs = ((new-fits 65536 0, new-fits 65536 0), c .before .before .before .before .before .pre .1)
 
 returns : tie.Need-returns
 returns c =
@@ -19,8 +20,8 @@ pub arrange-spec : {M : Type 1} → statement M
 arrange-spec =
     tie.close
     (tie.spec
-    (λ c. search needs)
-    (λ c. search needs)
+    (λ c. new-long 65536 0)
+    (λ c. new-long 65536 0)
     arrange-all-requires
     (λ c. search needs)
     returns)

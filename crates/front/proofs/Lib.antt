@@ -1,0 +1,2 @@
+mod Merging
+pub mod Front

@@ -1,0 +1,2 @@
+-- What the contracts of sorting within one slice cite. Assumes nothing.
+pub mod Sorting

@@ -1,0 +1,3 @@
+mod Noting
+mod Sounding
+pub mod Outcomes

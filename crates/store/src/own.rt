@@ -1,0 +1,35 @@
+// Refusal 2 for a whole store: its nodes and its edges keep their rules.
+use sections::edge_part;
+use sections::node_count;
+use sections::node_part;
+ghost use mathlib.Core.Path.{_≡_};
+ghost use Prim.Native.Nat.{_≤_};
+ghost use lib.ListN.{length};
+ghost use Rattle.rules.specs.Store.{nodeCount, nodePart, edgePart, nodesRight, edgesRight, constraintsAt, recordsRight};
+
+// Whether the nodes of a store are right.
+fn own_nodes_right(s: &[u8]) -> bool
+    requires { ⌜ constraintsAt (now s) ≤ length (now s) ⌝ }
+    ensures { λ r. ⌜ r ≡ nodesRight (nodePart (now (s .entry))) ⌝ }
+{
+    records::nodes_right(node_part(s))
+}
+
+// Whether the edges of a store are right.
+fn own_edges_right(s: &[u8]) -> bool
+    requires { ⌜ constraintsAt (now s) ≤ length (now s) ⌝ }
+    ensures { λ r. ⌜ r ≡ edgesRight (nodeCount (now (s .entry))) (edgePart (now (s .entry))) ⌝ }
+{
+    records::edges_right(node_count(s), edge_part(s))
+}
+
+// Whether every node and edge of a store is right.
+pub fn records_right(s: &[u8]) -> bool
+    requires { ⌜ constraintsAt (now s) ≤ length (now s) ⌝ }
+    ensures { λ r. ⌜ r ≡ recordsRight (now (s .entry)) ⌝ }
+{
+    if !own_nodes_right(s) {
+        return false;
+    }
+    own_edges_right(s)
+}
