@@ -1,7 +1,7 @@
 # make run: the small world built, planned and listed. make test: everything that must hold; its last line is rt ci's own.
 .PHONY: run test reading lib install desk here serve boundary compared bench
 
-# how many crates, and must-fail edits, are proved at a time: more than there are processors, so that none waits while the last of a level ends
+# how many crates, and must-fail edits, are proved at a time: a level ends with its slowest, so more at a time than processors leaves these idle for less of it
 export RT_JOBS ?= 6
 
 # the calls of crate bahrufaz that the comparison makes
