@@ -8,14 +8,14 @@ ghost use Rattle.rules.specs.Lists.{lessThen};
 ghost use Rattle.rules.specs.Listing.{precedes, equals, lowOf, foundAt, found, listPart};
 
 // Whether a is below b, or equal and then so.
-fn less_then(a: u32, b: u32, then: bool) -> bool
+pub fn less_then(a: u32, b: u32, then: bool) -> bool
     ensures { λ r. ⌜ r ≡ lessThen a b then ⌝ }
 {
     (a < b) | (a == b) & then
 }
 
 // Whether group i precedes the key.
-fn group_precedes(groups: &[u8], key: Key, i: usize) -> bool
+pub fn group_precedes(groups: &[u8], key: Key, i: usize) -> bool
     requires { ⌜ i * 24 + 24 ≤ length (now groups) ⌝ }
     ensures { λ r. ⌜ r ≡ precedes (now (groups .entry)) key i ⌝ }
 {
@@ -66,7 +66,7 @@ fn lowest(groups: &[u8], key: Key) -> usize
 }
 
 // The list of group i, if group i exists and equals the key.
-fn found_at(groups: &[u8], key: Key, i: usize) -> Found
+pub fn found_at(groups: &[u8], key: Key, i: usize) -> Found
     ensures { λ r. ⌜ r ≡ foundAt (now (groups .entry)) key i ⌝ }
 {
     if groups.len() / 24 <= i {
