@@ -14,12 +14,12 @@ SERVED += BAHRUFAZ_EMULATED=1
 endif
 
 run:
-	@rt check tour panel
-	@mkdir -p target/run && cp crates/tour/data/* target/run
-	@echo; echo "The small world's draft is built into a store, and pattern A is planned (crates/tour):"
-	@cd target/run && ../../run.sh tour
-	@echo; echo "The matches of pattern A in that store (crates/panel):"
-	@cd target/run && ../../run.sh panel
+	@rt check run_tour run_panel
+	@mkdir -p target/run && cp crates/run_tour/data/* target/run
+	@echo; echo "The small world's draft is built into a store, and pattern A is planned (crates/run_tour):"
+	@cd target/run && ../../run.sh run_tour
+	@echo; echo "The matches of pattern A in that store (crates/run_panel):"
+	@cd target/run && ../../run.sh run_panel
 
 test:
 	rt fmt --check

@@ -17,18 +17,18 @@ use Rattle.rules.specs.Index.{groupBytes, entryBytes, storeIndex, entryTotal, s
 use Rattle.rules.specs.Answers.{same, graphNumber, admitNumber}
 use Rattle.laws.specs.Cases.{first-holds, second-holds}
 use Rattle.laws.specs.Header.{header-ends, header-long}
-use Rattle.joined.specs.Packed.{forwardWords}
-use Rattle.joined.specs.Sound.{joinedSet}
-use Rattle.emit.specs.Emit.{sinkOf, Placed}
-use Rattle.keys.specs.Pass.{Right, passed}
-use Rattle.emit.specs.declared.Task.{Task}
-use Rattle.emit.specs.declared.Tally.{Tally}
+use Rattle.build_edges.specs.Packed.{forwardWords}
+use Rattle.build_edges.specs.Sound.{joinedSet}
+use Rattle.build_groups.specs.Emit.{sinkOf, Placed}
+use Rattle.build_keys.specs.Pass.{Right, passed}
+use Rattle.build_groups.specs.declared.Task.{Task}
+use Rattle.build_groups.specs.declared.Tally.{Tally}
 use Rattle.build.specs.Steps.{indexSame}
-use Rattle.emit.proofs.Records.{over-all}
-use Rattle.emit.proofs.Comparing.{same-append}
-use Rattle.keys.proofs.Items.{short, total, groupFor}
-use Rattle.keys.proofs.Whole.{compare-all, part-add, length-part}
-use Rattle.keys.proofs.Index.{itemsOf, passed-items, index-items, index-length, index-total}
+use Rattle.build_groups.proofs.Records.{over-all}
+use Rattle.build_groups.proofs.Comparing.{same-append}
+use Rattle.build_keys.proofs.Items.{short, total, groupFor}
+use Rattle.build_keys.proofs.Whole.{compare-all, part-add, length-part}
+use Rattle.build_keys.proofs.Index.{itemsOf, passed-items, index-items, index-length, index-total}
 use Rattle.build.proofs.Written.{all-short, told, index-lengths}
 use Rattle.build.proofs.Numbers.{none-few}
 

@@ -15,7 +15,7 @@ use Rattle.rules.specs.Index.{groupBytes, entryBytes, storeIndex, entryTotal, s
 use Rattle.rules.specs.Answers.{Outcome, answered, refused, outcome, graphNumber, buildNumber, buildOutcome}
 use Rattle.laws.specs.Over.{over-over}
 use Rattle.laws.specs.Header.{header-ends, header-long, draft-header, draft-bare}
-use Rattle.emit.specs.Emit.{groupRecord}
+use Rattle.build_groups.specs.Emit.{groupRecord}
 use Rattle.build.specs.Outcome.{gave}
 
 -- ---- bytes one after another

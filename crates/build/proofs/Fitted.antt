@@ -9,7 +9,7 @@ use Rattle.rules.specs.Store.{draftRight, groupsAt}
 use Rattle.rules.specs.Index.{storeIndex, entryTotal, storeOf}
 use Rattle.rules.specs.Answers.{graphNumber}
 use Rattle.laws.specs.Header.{draft-header, header-limits}
-use Rattle.keys.specs.Pass.{Right}
+use Rattle.build_keys.specs.Pass.{Right}
 use Rattle.build.specs.Steps.{Fitting}
 use Rattle.build.proofs.Numbers.{none-few}
 use Rattle.build.proofs.Written.{index-lengths}

@@ -14,12 +14,12 @@ use Rattle.rules.specs.Index.{exceeds, tooMany, storeIndex, entryTotal}
 use Rattle.rules.specs.Answers.{graphNumber}
 use Rattle.laws.specs.Sets.{has-set, set-strict}
 use Rattle.laws.specs.Members.{has-append}
-use Rattle.joined.specs.Packed.{forwardAt, backwardAt, forwardWords}
-use Rattle.joined.specs.Starts.{Climbs}
-use Rattle.joined.specs.Sound.{joinedSet}
-use Rattle.sides.specs.Side.{Arranged}
-use Rattle.keys.specs.Pass.{Right, AtHand, Laid}
-use Rattle.keys.proofs.Index.{node-number, both-ends, right-sound}
+use Rattle.build_edges.specs.Packed.{forwardAt, backwardAt, forwardWords}
+use Rattle.build_edges.specs.Starts.{Climbs}
+use Rattle.build_edges.specs.Sound.{joinedSet}
+use Rattle.build_neighbours.specs.Side.{Arranged}
+use Rattle.build_keys.specs.Pass.{Right, AtHand, Laid}
+use Rattle.build_keys.proofs.Index.{node-number, both-ends, right-sound}
 use Rattle.build.proofs.Numbers.{gives-four, gives-eleven}
 
 -- ---- low halves

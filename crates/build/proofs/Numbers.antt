@@ -10,7 +10,7 @@ use borrow.Author.Tests.{not-true, not-false, ltb-false}
 use Rattle.rules.specs.Store.{headerRight, recordsRight, constraintsRight, constraintPart}
 use Rattle.rules.specs.Index.{exceeds, tooMany, storeIndex, entryTotal}
 use Rattle.rules.specs.Answers.{graphNumber}
-use Rattle.keys.specs.Pass.{Right}
+use Rattle.build_keys.specs.Pass.{Right}
 use Rattle.build.specs.Steps.{recordNumber}
 
 graphBy : Bool → Bool → Bool → Bool → ℕ

@@ -14,20 +14,20 @@ use Rattle.rules.specs.Store.{edgePart, nodePart, constraintPart, constraintsIn
 use Rattle.rules.specs.Graph.{storeGraph, graphOf}
 use Rattle.rules.specs.Index.{groupBytes, entryBytes, storeIndex, entryTotal}
 use Rattle.laws.specs.Keeping.{all-flat}
-use Rattle.joined.specs.Packed.{forwardWords, wordIn, labelledIn}
-use Rattle.joined.specs.Sound.{joinedSet}
-use Rattle.sides.specs.Left.{labelsLeft}
-use Rattle.emit.specs.Keyed.{Keyed, keyedFrom}
-use Rattle.emit.specs.Emit.{sinkOf, Placed}
-use Rattle.keys.specs.Pass.{keyedBy, aboveFor, Right, passed}
-use Rattle.emit.specs.declared.Task.{Task}
-use Rattle.emit.specs.declared.Tally.{Tally}
-use Rattle.keys.proofs.Going.{keyed-short, keyed-here, keyed-on}
-use Rattle.keys.proofs.Passing.{labels-few}
-use Rattle.keys.proofs.Graphs.{graph-edges}
-use Rattle.keys.proofs.Items.{item, short, total, itemsFrom, Told, groupFor, length-groups, length-entries}
-use Rattle.keys.proofs.Whole.{write-fits}
-use Rattle.keys.proofs.Index.{itemsOf, passed-items, index-items, index-length, index-total, right-sound}
+use Rattle.build_edges.specs.Packed.{forwardWords, wordIn, labelledIn}
+use Rattle.build_edges.specs.Sound.{joinedSet}
+use Rattle.build_neighbours.specs.Left.{labelsLeft}
+use Rattle.build_groups.specs.Keyed.{Keyed, keyedFrom}
+use Rattle.build_groups.specs.Emit.{sinkOf, Placed}
+use Rattle.build_keys.specs.Pass.{keyedBy, aboveFor, Right, passed}
+use Rattle.build_groups.specs.declared.Task.{Task}
+use Rattle.build_groups.specs.declared.Tally.{Tally}
+use Rattle.build_keys.proofs.Going.{keyed-short, keyed-here, keyed-on}
+use Rattle.build_keys.proofs.Passing.{labels-few}
+use Rattle.build_keys.proofs.Graphs.{graph-edges}
+use Rattle.build_keys.proofs.Items.{item, short, total, itemsFrom, Told, groupFor, length-groups, length-entries}
+use Rattle.build_keys.proofs.Whole.{write-fits}
+use Rattle.build_keys.proofs.Index.{itemsOf, passed-items, index-items, index-length, index-total, right-sound}
 
 -- no key has more than three ids
 abbrev few : Keyed → Bool

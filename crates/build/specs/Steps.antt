@@ -8,7 +8,7 @@ use Rattle.rules.specs.Store.{groupsAt, constraintPart, draftRight, recordsRigh
 use Rattle.rules.specs.Words.{part}
 use Rattle.rules.specs.Index.{storeIndex, entryTotal, groupBytes, entryBytes}
 use Rattle.rules.specs.Answers.{same}
-use Rattle.keys.specs.Pass.{Right, AtHand, Laid}
+use Rattle.build_keys.specs.Pass.{Right, AtHand, Laid}
 
 -- it is told whether the index has too many entries; where it has not, they are arranged
 pub record Settled (s joined : List ℕ) (many : Bool) : Type 0 where

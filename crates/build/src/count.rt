@@ -1,13 +1,13 @@
 // Refusals 2 and 3; refusals 4 and 11, and how many groups and entries the index has.
-use emit::Tally;
-use emit::Task;
+use build_groups::Tally;
+use build_groups::Task;
 ghost use mathlib.Core.Path.{_≡_};
 ghost use mathlib.Core.Bool.{true, false};
 ghost use lib.ListN.{length};
 ghost use Rattle.rules.specs.Store.{constraintPart, constraintsRight, groupsAt, headerRight};
 ghost use Rattle.rules.specs.Index.{exceeds, tooMany, storeIndex, entryTotal};
 ghost use Rattle.rules.specs.Answers.{graphNumber};
-ghost use Rattle.keys.specs.Pass.{Laid};
+ghost use Rattle.build_keys.specs.Pass.{Laid};
 ghost use Rattle.build.specs.Steps.{recordNumber};
 ghost use Prim.Native.Nat.{_≤_};
 
@@ -32,7 +32,7 @@ fn some_above(s: &[u8], joined: &[u32]) -> bool
         table: 0,
         lists: 0,
     };
-    let t = pass::pass(task, s, joined, s, &mut none);
+    let t = build_index::pass(task, s, joined, s, &mut none);
     t.stopped
 }
 
@@ -50,7 +50,7 @@ fn count_all(s: &[u8], joined: &[u32]) -> Tally
         table: 0,
         lists: 0,
     };
-    pass::pass(task, s, joined, s, &mut none)
+    build_index::pass(task, s, joined, s, &mut none)
 }
 
 // Whether the constraints of a store are right.

@@ -2,9 +2,9 @@
 mod count;
 mod write;
 
+use build_groups::Task;
 use count::count;
 use count::record_number;
-use emit::Task;
 use rules::Built;
 use write::groups_at;
 use write::put_bytes;
@@ -19,7 +19,7 @@ ghost use Rattle.rules.specs.Store.{nodeCount, edgeCount, constraintCount, grou
 ghost use Rattle.rules.specs.Index.{storeIndex, entryTotal, storeOf};
 ghost use Rattle.rules.specs.Answers.{same, graphNumber, buildOutcome, admitNumber};
 ghost use Rattle.laws.specs.Header.{Limits};
-ghost use Rattle.keys.specs.Pass.{AtHand, Laid};
+ghost use Rattle.build_keys.specs.Pass.{AtHand, Laid};
 ghost use Rattle.build.specs.Steps.{Settled, Fitting, indexSame};
 ghost use Rattle.build.specs.Outcome.{gave};
 
@@ -28,7 +28,7 @@ fn lay(s: &[u8], joined: &mut [u32])
     requires { ⌜ AtHand (now s) (now joined) ⌝ }
     ensures { λ _. ⌜ Laid (now (s .entry)) (now (joined .exit)) ⌝ }
 {
-    sides::arrange(store::node_part(s), joined);
+    build_neighbours::arrange(store::node_part(s), joined);
 }
 
 // Whether the index of s has too many entries; where it has not, its edges are arranged.
@@ -37,7 +37,7 @@ fn settle(s: &[u8], joined: &mut [u32]) -> bool
     requires { ⌜ AtHand (now s) (now joined) ⌝ }
     ensures { λ r. ⌜ Settled (now (s .entry)) (now (joined .exit)) r ⌝ }
 {
-    if 1048576 < totals::total(s, joined) {
+    if 1048576 < build_totals::total(s, joined) {
         return true;
     }
     lay(s, joined);
@@ -49,7 +49,7 @@ fn number_of_many(s: &[u8], joined: &[u32]) -> u32
     requires { ⌜ AtHand (now s) (now joined) × (1048576 < entryTotal (storeIndex (now s))) ⌝ }
     ensures { λ r. ⌜ r ≡ graphNumber (now (s .entry)) ⌝ }
 {
-    if exceed::some_exceeds(s, joined) {
+    if build_longlist::some_exceeds(s, joined) {
         return 4;
     }
     11
@@ -115,7 +115,7 @@ pub fn build(draft: &[u8], room: &mut [u8]) -> Built
         };
     }
     let mut joined = [0u32; 524288];
-    let n = joined::own_joined(draft, &mut joined);
+    let n = build_edges::own_joined(draft, &mut joined);
     build_with(draft, &mut joined[..n], room)
 }
 
@@ -126,7 +126,7 @@ fn header_same(s: &[u8], groups: u32, entries: u32) -> bool
 {
     let mut own = [0u8; 48];
     put_header(s, groups, entries, &mut own);
-    emit::bytes_same(&own, &s[..48])
+    build_groups::bytes_same(&own, &s[..48])
 }
 
 // Whether the groups and entries of s are those of its index, of which there are so many.
@@ -144,7 +144,7 @@ fn index_same(s: &[u8], joined: &[u32], groups: u32, entries: u32) -> bool
         lists: table + groups as usize * 24,
     };
     let mut none = [0u8; 1];
-    let t = pass::pass(task, s, joined, s, &mut none);
+    let t = build_index::pass(task, s, joined, s, &mut none);
     !t.stopped
 }
 
@@ -187,6 +187,6 @@ pub fn admit(s: &[u8]) -> u32
         return early;
     }
     let mut joined = [0u32; 524288];
-    let n = joined::own_joined(s, &mut joined);
+    let n = build_edges::own_joined(s, &mut joined);
     admit_with(s, &mut joined[..n])
 }

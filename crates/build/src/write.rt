@@ -1,5 +1,5 @@
 // Writing a store: its header, its sections and its index.
-use emit::Task;
+use build_groups::Task;
 ghost use mathlib.Core.Path.{_≡_};
 ghost use Prim.Native.Nat.{_+_, _*_, _≤_};
 ghost use lib.ListN.{length};
@@ -7,7 +7,7 @@ ghost use Rattle.rules.specs.Words.{over};
 ghost use Rattle.rules.specs.Store.{nodeCount, edgeCount, constraintCount, groupsAt, header};
 ghost use Rattle.rules.specs.Index.{storeIndex, entryTotal, groupBytes, entryBytes};
 ghost use Rattle.laws.specs.Header.{Limits};
-ghost use Rattle.keys.specs.Pass.{Laid};
+ghost use Rattle.build_keys.specs.Pass.{Laid};
 
 // Where the groups of a store start.
 pub fn groups_at(s: &[u8]) -> usize
@@ -27,12 +27,12 @@ pub fn put_header(s: &[u8], groups: u32, entries: u32, room: &mut [u8])
     let n = store::node_count(s);
     let m = store::edge_count(s);
     let k = store::constraint_count(s);
-    emit::put_six(room, 0, 1, n, m, k, groups, entries);
+    build_groups::put_six(room, 0, 1, n, m, k, groups, entries);
     let edges = 48 + n * 8;
     let constraints = edges + m * 8;
     let table = constraints + k * 12;
     let lists = table + groups * 24;
-    emit::put_six(
+    build_groups::put_six(
         room,
         24,
         48,
@@ -70,5 +70,5 @@ pub fn write_index(s: &[u8], joined: &[u32], groups: u32, entries: u32, room: &m
         table: table,
         lists: table + groups as usize * 24,
     };
-    pass::pass(task, s, joined, s, room);
+    build_index::pass(task, s, joined, s, room);
 }

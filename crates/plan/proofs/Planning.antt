@@ -21,10 +21,10 @@ use Rattle.laws.specs.Cases.{first-holds}
 use Rattle.laws.specs.Each.{all-each}
 use Rattle.laws.specs.PatternLaws.{pattern-says, node-says, edge-says}
 use Rattle.laws.specs.Table.{Neighbours, Ends, right-ends}
-use Rattle.ways.specs.Ways.{Known}
-use Rattle.ways.specs.Given.{Given}
-use Rattle.rows.specs.Rows.{total, NodesDone, EdgesDone}
-use Rattle.rows.specs.declared.Stand.{Stand}
+use Rattle.plan_ways.specs.Ways.{Known}
+use Rattle.plan_ways.specs.Given.{Given}
+use Rattle.plan_rows.specs.Rows.{total, NodesDone, EdgesDone}
+use Rattle.plan_rows.specs.declared.Stand.{Stand}
 use Rattle.laws.specs.Over.{over-over}
 use Rattle.laws.specs.Header.{header-limits}
 use Rattle.laws.specs.Parts.{constraints-in}

@@ -6,7 +6,7 @@ ghost use lib.ListN.{length};
 ghost use Rattle.rules.specs.Store.{constraintsIn};
 ghost use Rattle.rules.specs.Pattern.{sizeOf, edgesOf};
 ghost use Rattle.rules.specs.Answers.{planOutcome};
-ghost use Rattle.ways.specs.Given.{Given};
+ghost use Rattle.plan_ways.specs.Given.{Given};
 ghost use Rattle.plan.specs.Plans.{refusedPlan, boundedPlan, coveredPlan, planOf, told};
 
 // A plan, or a refusal: the number, the bound T, how many words the rows have, and the words.
@@ -36,11 +36,11 @@ fn bounded(constraints: &[u8], b: &[u8], t: [[bool; 8]; 8]) -> PlanRows
     ensures { λ r. ⌜ r ≡ boundedPlan (now (constraints .entry)) (now (b .entry)) ⌝ }
 {
     let mut words = [0u32; 512];
-    let nodes = rows::node_rows(constraints, b, t, &mut words);
+    let nodes = plan_rows::node_rows(constraints, b, t, &mut words);
     if !nodes.fits {
         return refused(8);
     }
-    let all = rows::edge_rows(constraints, b, t, nodes, &mut words);
+    let all = plan_rows::edge_rows(constraints, b, t, nodes, &mut words);
     if !all.fits {
         return refused(8);
     }
@@ -74,7 +74,7 @@ fn covered_plan(constraints: &[u8], b: &[u8], t: [[bool; 8]; 8]) -> PlanRows
             return p;
         }
     }
-    if !cover::all_covered(constraints, b, t) {
+    if !plan_cover::all_covered(constraints, b, t) {
         return refused(7);
     }
     p

@@ -1,14 +1,14 @@
 // Refusal 1: the header of a store and of a draft.
-use sections::constraint_count;
-use sections::constraints_at;
-use sections::edge_count;
-use sections::edges_at;
-use sections::end_at;
-use sections::entries_at;
-use sections::entry_count;
-use sections::group_count;
-use sections::groups_at;
-use sections::node_count;
+use store_sections::constraint_count;
+use store_sections::constraints_at;
+use store_sections::edge_count;
+use store_sections::edges_at;
+use store_sections::end_at;
+use store_sections::entries_at;
+use store_sections::entry_count;
+use store_sections::group_count;
+use store_sections::groups_at;
+use store_sections::node_count;
 ghost use mathlib.Core.Path.{_≡_};
 ghost use mathlib.Core.Bool.{_&&_};
 ghost use Prim.Native.Nat.{_+_, _≤_};
@@ -22,7 +22,7 @@ fn word_at(s: &[u8], i: usize) -> usize
     requires { ⌜ i + 4 ≤ length (now s) ⌝ }
     ensures { λ r. ⌜ r ≡ u32At (now (s .entry)) i ⌝ }
 {
-    words::u32_at(s, i) as usize
+    store_words::u32_at(s, i) as usize
 }
 
 // Whether the five counts are within their limits.

@@ -1,7 +1,7 @@
 // Refusal 2 for a whole store: its nodes and its edges keep their rules.
-use sections::edge_part;
-use sections::node_count;
-use sections::node_part;
+use store_sections::edge_part;
+use store_sections::node_count;
+use store_sections::node_part;
 ghost use mathlib.Core.Path.{_≡_};
 ghost use Prim.Native.Nat.{_≤_};
 ghost use lib.ListN.{length};
@@ -12,7 +12,7 @@ fn own_nodes_right(s: &[u8]) -> bool
     requires { ⌜ constraintsAt (now s) ≤ length (now s) ⌝ }
     ensures { λ r. ⌜ r ≡ nodesRight (nodePart (now (s .entry))) ⌝ }
 {
-    records::nodes_right(node_part(s))
+    store_records::nodes_right(node_part(s))
 }
 
 // Whether the edges of a store are right.
@@ -20,7 +20,7 @@ fn own_edges_right(s: &[u8]) -> bool
     requires { ⌜ constraintsAt (now s) ≤ length (now s) ⌝ }
     ensures { λ r. ⌜ r ≡ edgesRight (nodeCount (now (s .entry))) (edgePart (now (s .entry))) ⌝ }
 {
-    records::edges_right(node_count(s), edge_part(s))
+    store_records::edges_right(node_count(s), edge_part(s))
 }
 
 // Whether every node and edge of a store is right.

@@ -5,7 +5,7 @@ use mathlib.Core.Path.{sym, _∙_}
 use lib.ListN.{length-take}
 use borrow.Author.Tests.{not-false}
 use Rattle.laws.specs.Rooms.{new-fits, new-long}
-use Rattle.keys.proofs.Index.{right-sound}
+use Rattle.build_keys.proofs.Index.{right-sound}
 use Rattle.build.proofs.Numbers.{early-number, early-right}
 use Rattle.build.proofs.Laying.{front-short}
 use Rattle.build.proofs.Admitted.{admits-not, admits-graph}

@@ -1,7 +1,7 @@
 -- `build::count::count_all` meets its contract. Assumes nothing.
 use borrow.Author.Needs.{needs}
 use mathlib.Core.Path.{refl}
-use Rattle.keys.proofs.Index.{placed-count, count-told}
+use Rattle.build_keys.proofs.Index.{placed-count, count-told}
 use Rattle.build.proofs.count.count_all.Statement.{statement}
 use Rattle.build.proofs.count.count_all.Tie as tie
 

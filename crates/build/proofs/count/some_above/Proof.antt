@@ -1,7 +1,7 @@
 -- `build::count::some_above` meets its contract. Assumes nothing.
 use borrow.Author.Needs.{needs}
 use mathlib.Core.Path.{refl}
-use Rattle.keys.proofs.Index.{placed-count, exceeds-told}
+use Rattle.build_keys.proofs.Index.{placed-count, exceeds-told}
 use Rattle.build.proofs.count.some_above.Statement.{statement}
 use Rattle.build.proofs.count.some_above.Tie as tie
 

@@ -1,9 +1,0 @@
--- `records::constraints_differ` meets its contract. Assumes nothing.
-use borrow.Author.Needs.{needs}
-use Rattle.records.proofs.constraints_differ.Statement.{statement}
-use Rattle.records.proofs.constraints_differ.Tie as tie
-
-pub constraints-differ-spec : {M : Type 1} → statement M
-constraints-differ-spec =
-    tie.close
-    (tie.spec (λ c κs. search needs) (λ c κs. search needs) (λ c κs. search needs) (λ c. cc))
