@@ -19,10 +19,10 @@ use Rattle.laws.specs.Cases.{first-holds, second-holds}
 use Rattle.laws.specs.Header.{header-ends, header-long}
 use Rattle.build_edges.specs.Packed.{forwardWords}
 use Rattle.build_edges.specs.Sound.{joinedSet}
-use Rattle.build_groups.specs.Emit.{sinkOf, Placed}
+use Rattle.build_groups.specs.Emit.{outputOf, Placed}
 use Rattle.build_keys.specs.Pass.{Right, passed}
-use Rattle.build_groups.specs.declared.Task.{Task}
-use Rattle.build_groups.specs.declared.Tally.{Tally}
+use Rattle.build_groups.specs.declared.Purpose.{Purpose}
+use Rattle.build_groups.specs.declared.Progress.{Progress}
 use Rattle.build.specs.Steps.{indexSame}
 use Rattle.build_groups.proofs.Records.{over-all}
 use Rattle.build_groups.proofs.Comparing.{same-append}
@@ -63,14 +63,14 @@ same-turned (x ∷ a) [] = refl
 same-turned (x ∷ a) (y ∷ b) = ap (λ t. t && same a b) (turned x y) ∙ ap (λ t. eqb y x && t) (same-turned a b)
 
 -- ---- the index
-abbrev pub compareTask : ℕ → ℕ → ℕ → Task
+abbrev pub compareTask : ℕ → ℕ → ℕ → Purpose
 compareTask at g e = record { mode = 2; above = 0; groups = g; entries = e; table = at; lists = at + g * 24 }
 
 pub placed-compare : (at g e a b : ℕ) → at + g * 24 + e * 8 ≤ a → Placed (compareTask at g e) a b
 placed-compare at g e a b h = record { writes = λ o. absurd (omega arith); reads = λ n o. record { table = omega arith; lists = omega arith } }
 
-pub index-compared : {s : List ℕ} → Right s → (at g e : ℕ) (r : Tally) (room room′ : List ℕ) → at ≡ groupsAt s → g ≡ length (storeIndex s) → e ≡ entryTotal (storeIndex s) → groupsAt s + g * 24 + e * 8 ≤ length s
-    → sinkOf r room′ ≡ passed (compareTask at g e) s s room → not (r .stopped) ≡ indexSame s g e
+pub index-compared : {s : List ℕ} → Right s → (at g e : ℕ) (r : Progress) (room room′ : List ℕ) → at ≡ groupsAt s → g ≡ length (storeIndex s) → e ≡ entryTotal (storeIndex s) → groupsAt s + g * 24 + e * 8 ≤ length s
+    → outputOf r room′ ≡ passed (compareTask at g e) s s room → not (r .stopped) ≡ indexSame s g e
 unfolding itemsOf indexSame
 index-compared {s} right at g e r room room′ ea eg ee fits q =
     let task = compareTask at g e in

@@ -18,10 +18,10 @@ use Rattle.build_edges.specs.Packed.{forwardWords, wordIn, labelledIn}
 use Rattle.build_edges.specs.Sound.{joinedSet}
 use Rattle.build_neighbours.specs.Left.{labelsLeft}
 use Rattle.build_groups.specs.Keyed.{Keyed, keyedFrom}
-use Rattle.build_groups.specs.Emit.{sinkOf, Placed}
+use Rattle.build_groups.specs.Emit.{outputOf, Placed}
 use Rattle.build_keys.specs.Pass.{keyedBy, aboveFor, Right, passed}
-use Rattle.build_groups.specs.declared.Task.{Task}
-use Rattle.build_groups.specs.declared.Tally.{Tally}
+use Rattle.build_groups.specs.declared.Purpose.{Purpose}
+use Rattle.build_groups.specs.declared.Progress.{Progress}
 use Rattle.build_keys.proofs.Going.{keyed-short, keyed-here, keyed-on}
 use Rattle.build_keys.proofs.Passing.{labels-few}
 use Rattle.build_keys.proofs.Graphs.{graph-edges}
@@ -52,7 +52,7 @@ unfolding all
 items-few c [] = refl
 items-few c (x ∷ xs) = ap (λ b. few x && b) (items-few c xs)
 
-pub all-short : (task : Task) (words store nodes joined constraints : List ℕ) (k n : ℕ) → all short (itemsFrom task words store nodes joined constraints k n) ≡ true
+pub all-short : (task : Purpose) (words store nodes joined constraints : List ℕ) (k n : ℕ) → all short (itemsFrom task words store nodes joined constraints k n) ≡ true
 unfolding itemsFrom keyedBy
 all-short task words store nodes joined constraints k n =
     all-flat short (λ c. map (item c) (keyedBy task nodes joined (constraintAt constraints c))) (range k n)
@@ -63,7 +63,7 @@ all-short task words store nodes joined constraints k n =
     ∙ keys-few (wordIn joined) (labelledIn nodes) (aboveFor task d) (labelsLeft (d .first) (d .second) (d .third)) [] (labelledIn nodes (d .label)) (omega arith))
 
 -- ---- the index
-abbrev pub writeTask : ℕ → ℕ → ℕ → Task
+abbrev pub writeTask : ℕ → ℕ → ℕ → Purpose
 writeTask at g e = record { mode = 1; above = 0; groups = g; entries = e; table = at; lists = at + g * 24 }
 
 pub placed-write : (at g e a b : ℕ) → at + g * 24 + e * 8 ≤ b → Placed (writeTask at g e) a b
@@ -74,8 +74,8 @@ module _ {s : List ℕ} (right : Right s) where
   unfolding storeGraph graphOf
   told = record { edges = graph-edges (edgePart s) (right-sound right .below) (right-sound right .ascends) }
 
-  pub index-written : (at g e : ℕ) (r : Tally) (room room′ : List ℕ) → g ≡ length (storeIndex s) → e ≡ entryTotal (storeIndex s) → at + g * 24 + e * 8 ≤ length room
-      → sinkOf r room′ ≡ passed (writeTask at g e) s s room
+  pub index-written : (at g e : ℕ) (r : Progress) (room room′ : List ℕ) → g ≡ length (storeIndex s) → e ≡ entryTotal (storeIndex s) → at + g * 24 + e * 8 ≤ length room
+      → outputOf r room′ ≡ passed (writeTask at g e) s s room
       → room′ ≡ over (over room at (groupBytes 0 (storeIndex s))) (at + g * 24) (entryBytes (storeIndex s))
   unfolding itemsOf
   index-written at g e r room room′ eg ee fits q =

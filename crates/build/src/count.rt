@@ -1,6 +1,6 @@
 // Refusals 2 and 3; refusals 4 and 11, and how many groups and entries the index has.
-use build_groups::Tally;
-use build_groups::Task;
+use build_groups::Progress;
+use build_groups::Purpose;
 ghost use mathlib.Core.Path.{_≡_};
 ghost use mathlib.Core.Bool.{true, false};
 ghost use lib.ListN.{length};
@@ -24,7 +24,7 @@ fn some_above(s: &[u8], joined: &[u32]) -> bool
     ensures { λ r. ⌜ r ≡ exceeds (now (s .entry)) ⌝ }
 {
     let mut none = [0u8; 1];
-    let task = Task {
+    let task = Purpose {
         mode: 0,
         above: 1,
         groups: 0,
@@ -37,12 +37,12 @@ fn some_above(s: &[u8], joined: &[u32]) -> bool
 }
 
 // Counts the groups and entries of the index, and stops where they are too many.
-fn count_all(s: &[u8], joined: &[u32]) -> Tally
+fn count_all(s: &[u8], joined: &[u32]) -> Progress
     requires { ⌜ Laid (now s) (now joined) ⌝ }
     ensures { λ r. ⌜ (r .stopped ≡ tooMany (now (s .entry))) × (r .stopped ≡ false → (r .groups ≡ length (storeIndex (now (s .entry)))) × (r .entries ≡ entryTotal (storeIndex (now (s .entry))))) ⌝ }
 {
     let mut none = [0u8; 1];
-    let task = Task {
+    let task = Purpose {
         mode: 0,
         above: 0,
         groups: 262144,

@@ -2,7 +2,7 @@
 mod count;
 mod write;
 
-use build_groups::Task;
+use build_groups::Purpose;
 use count::count;
 use count::record_number;
 use rules::Built;
@@ -135,7 +135,7 @@ fn index_same(s: &[u8], joined: &[u32], groups: u32, entries: u32) -> bool
     ensures { λ r. ⌜ r ≡ indexSame (now (s .entry)) groups entries ⌝ }
 {
     let table = groups_at(s);
-    let task = Task {
+    let task = Purpose {
         mode: 2,
         above: 0,
         groups: groups,

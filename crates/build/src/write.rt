@@ -1,5 +1,5 @@
 // Writing a store: its header, its sections and its index.
-use build_groups::Task;
+use build_groups::Purpose;
 ghost use mathlib.Core.Path.{_≡_};
 ghost use Prim.Native.Nat.{_+_, _*_, _≤_};
 ghost use lib.ListN.{length};
@@ -62,7 +62,7 @@ pub fn write_index(s: &[u8], joined: &[u32], groups: u32, entries: u32, room: &m
     ensures { λ _. ⌜ now (room .exit) ≡ over (over (now (room .entry)) (groupsAt (now (s .entry))) (groupBytes 0 (storeIndex (now (s .entry))))) (groupsAt (now (s .entry)) + groups * 24) (entryBytes (storeIndex (now (s .entry)))) ⌝ }
 {
     let table = groups_at(s);
-    let task = Task {
+    let task = Purpose {
         mode: 1,
         above: 0,
         groups: groups,

@@ -12,8 +12,8 @@ use Rattle.rules.specs.declared.Key.{Key}
 use Rattle.rules.specs.Answers.{same}
 use Rattle.build_edges.specs.Packed.{wordIn}
 use Rattle.build_groups.specs.Keyed.{Keyed}
-use Rattle.build_groups.specs.declared.Task.{Task}
-use Rattle.build_groups.specs.declared.Tally.{Tally}
+use Rattle.build_groups.specs.declared.Purpose.{Purpose}
+use Rattle.build_groups.specs.declared.Progress.{Progress}
 
 -- the two bits of key node u and entry v
 unfoldable pub bitsOf : List ℕ → ℕ → ℕ → ℕ
@@ -39,57 +39,57 @@ unfoldable pub listRecords : List ℕ → List ℕ → List ℕ → List ℕ
 listRecords words ids list = flatMap (entryRecord words ids) list
 
 -- how far a walk has come, and the room that it writes to
-pub record Sink : Type 0 where
-  pub tally : Tally
+pub record Output : Type 0 where
+  pub tally : Progress
   pub room : List ℕ
 
-abbrev pub sinkOf : Tally → List ℕ → Sink
-sinkOf t room = record { tally = t; room = room }
+abbrev pub outputOf : Progress → List ℕ → Output
+outputOf t room = record { tally = t; room = room }
 
 -- where the next group and the next entry stand
-abbrev pub groupPlace : Task → Tally → ℕ
+abbrev pub groupPlace : Purpose → Progress → ℕ
 groupPlace task t = task .table + t .groups * 24
 
-abbrev pub entryPlace : Task → Tally → ℕ
+abbrev pub entryPlace : Purpose → Progress → ℕ
 entryPlace task t = task .lists + t .entries * 8
 
 -- one group more, with so many entries
-abbrev pub counted : Tally → ℕ → Bool → Tally
+abbrev pub counted : Progress → ℕ → Bool → Progress
 counted t n stopped = record { groups = t .groups + 1; entries = t .entries + n; stopped = stopped }
 
 -- one group more is within the task's bounds
-unfoldable pub within : Task → Tally → ℕ → Bool
+unfoldable pub within : Purpose → Progress → ℕ → Bool
 within task t n = ltb (t .groups) (task .groups) && leb (t .entries + n) (task .entries)
 
 -- the group at its place and its entries at theirs lie in a run of n bytes
-pub record Fits (task : Task) (t : Tally) (count n : ℕ) : Type 0 where
+pub record Fits (task : Purpose) (t : Progress) (count n : ℕ) : Type 0 where
   pub short : count ≤ 65536
   pub group : groupPlace task t + 24 ≤ n
   pub list : entryPlace task t + count * 8 ≤ n
 
 -- all that is within the task's bounds lies in the room, or in the store that is compared
-pub record Lies (task : Task) (n : ℕ) : Type 0 where
+pub record Lies (task : Purpose) (n : ℕ) : Type 0 where
   pub table : task .table + task .groups * 24 ≤ n
   pub lists : task .lists + task .entries * 8 ≤ n
 
-pub record Placed (task : Task) (store room : ℕ) : Type 0 where
+pub record Placed (task : Purpose) (store room : ℕ) : Type 0 where
   pub writes : task .mode ≡ 1 → Lies task room
   pub reads : (task .mode ≡ 0 → ⊥) → (task .mode ≡ 1 → ⊥) → Lies task store
 
 -- the group is written
-unfoldable pub written : Task → List ℕ → ℕ → List ℕ → List ℕ → Tally → List ℕ → List ℕ
+unfoldable pub written : Purpose → List ℕ → ℕ → List ℕ → List ℕ → Progress → List ℕ → List ℕ
 written task words c ids list t room =
     over (over room (groupPlace task t) (groupRecord c ids (t .entries) (length list)))
     (entryPlace task t) (listRecords words ids list)
 
 -- the store has the group
-unfoldable pub agrees : Task → List ℕ → ℕ → List ℕ → List ℕ → Tally → List ℕ → Bool
+unfoldable pub agrees : Purpose → List ℕ → ℕ → List ℕ → List ℕ → Progress → List ℕ → Bool
 agrees task words c ids list t store =
     same (part store (groupPlace task t) (groupPlace task t + 24)) (groupRecord c ids (t .entries) (length list))
     && same (part store (entryPlace task t) (entryPlace task t + length list * 8)) (listRecords words ids list)
 
 -- one key with its list, where it is known whether the walk has stopped, whether it stays within its bounds, and whether it counts or writes
-unfoldable pub emitBy : Task → List ℕ → List ℕ → Sink → ℕ → List ℕ → List ℕ → Bool → Bool → Bool → Bool → Sink
+unfoldable pub emitBy : Purpose → List ℕ → List ℕ → Output → ℕ → List ℕ → List ℕ → Bool → Bool → Bool → Bool → Output
 emitBy task words store s c ids list stopped inside counts writes =
     elim stopped [
       | true ↦ s
@@ -106,11 +106,11 @@ emitBy task words store s c ids list stopped inside counts writes =
     ]
 
 -- by the mode: 0 counts, 1 writes, any other compares with the store; a stopped walk does nothing more
-unfoldable pub emit : Task → List ℕ → List ℕ → Sink → ℕ → List ℕ → List ℕ → Sink
+unfoldable pub emit : Purpose → List ℕ → List ℕ → Output → ℕ → List ℕ → List ℕ → Output
 emit task words store s c ids list =
     emitBy task words store s c ids list (s .tally .stopped) (within task (s .tally) (length list)) (eqb (task .mode) 0) (eqb (task .mode) 1)
 
 -- all of them, one after another
-unfoldable pub emitAll : Task → List ℕ → List ℕ → ℕ → Sink → List Keyed → Sink
+unfoldable pub emitAll : Purpose → List ℕ → List ℕ → ℕ → Output → List Keyed → Output
 emitAll task words store c s [] = s
 emitAll task words store c s (x ∷ xs) = emitAll task words store c (emit task words store s c (padded noId (x .key)) (x .list)) xs

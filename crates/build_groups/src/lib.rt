@@ -9,10 +9,10 @@ ghost use Rattle.rules.specs.Answers.{same};
 ghost use Rattle.build_edges.specs.Packed.{forwardWords};
 ghost use Rattle.build_edges.specs.Starts.{Edged};
 ghost use Rattle.build_groups.specs.Emit.{bitsOf, dirsOf, idsOf, groupRecord, entryRecord, listRecords};
-ghost use Rattle.build_groups.specs.Emit.{within, counted, groupPlace, entryPlace, Fits, Placed, written, agrees, emit, sinkOf};
+ghost use Rattle.build_groups.specs.Emit.{within, counted, groupPlace, entryPlace, Fits, Placed, written, agrees, emit, outputOf};
 
 // What a walk over the keys of a constraint is for: mode 0 counts, 1 writes, any other compares; lists longer than `above`, and how many at most.
-pub struct Task {
+pub struct Purpose {
     pub mode: u32,
     pub above: u32,
     pub groups: u32,
@@ -22,7 +22,7 @@ pub struct Task {
 }
 
 // How far a walk has come: groups and entries so far, and whether it has stopped.
-pub struct Tally {
+pub struct Progress {
     pub groups: u32,
     pub entries: u32,
     pub stopped: bool,
@@ -181,18 +181,18 @@ fn list_same(edges: &[u8], begins: &[u32], key: Key, list: &[u32], store: &[u8],
 }
 
 // Whether one group more, with n entries, is within the bounds of a task.
-fn is_within(task: Task, tally: Tally, n: u32) -> bool
+fn is_within(task: Purpose, tally: Progress, n: u32) -> bool
     ensures { λ r. ⌜ r ≡ within task tally n ⌝ }
 {
     (tally.groups < task.groups) & (tally.entries as u64 + n as u64 <= task.entries as u64)
 }
 
 // One group more, with n entries.
-fn one_more(tally: Tally, n: u32, stopped: bool) -> Tally
+fn one_more(tally: Progress, n: u32, stopped: bool) -> Progress
     requires { ⌜ (tally .groups + 1 < 4294967296) × (tally .entries + n < 4294967296) ⌝ }
     ensures { λ r. ⌜ r ≡ counted tally n stopped ⌝ }
 {
-    Tally {
+    Progress {
         groups: tally.groups + 1,
         entries: tally.entries + n,
         stopped: stopped,
@@ -201,13 +201,13 @@ fn one_more(tally: Tally, n: u32, stopped: bool) -> Tally
 
 // Writes a group and its entries at their places.
 fn write_one(
-    task: Task,
+    task: Purpose,
     edges: &[u8],
     begins: &[u32],
     key: Key,
     list: &[u32],
     room: &mut [u8],
-    tally: Tally,
+    tally: Progress,
 )
     requires { ⌜ Fits task tally (length (now list)) (length (now room)) × Edged (now edges) (now begins) ⌝ }
     ensures { λ _. ⌜ now (room .exit) ≡ written task (forwardWords (now (edges .entry))) (key .constraint) (idsOf key) (now (list .entry)) tally (now (room .entry)) ⌝ }
@@ -219,7 +219,7 @@ fn write_one(
 }
 
 // Whether the store has the group at its place.
-fn group_agrees(task: Task, key: Key, count: u32, store: &[u8], tally: Tally) -> bool
+fn group_agrees(task: Purpose, key: Key, count: u32, store: &[u8], tally: Progress) -> bool
     requires { ⌜ groupPlace task tally + 24 ≤ length (now store) ⌝ }
     ensures { λ r. ⌜ r ≡ same (part (now (store .entry)) (groupPlace task tally) (groupPlace task tally + 24)) (groupRecord (key .constraint) (idsOf key) (tally .entries) count) ⌝ }
 {
@@ -229,13 +229,13 @@ fn group_agrees(task: Task, key: Key, count: u32, store: &[u8], tally: Tally) ->
 
 // Whether the store has the entries of a list at their place.
 fn list_agrees(
-    task: Task,
+    task: Purpose,
     edges: &[u8],
     begins: &[u32],
     key: Key,
     list: &[u32],
     store: &[u8],
-    tally: Tally,
+    tally: Progress,
 ) -> bool
     requires { ⌜ (entryPlace task tally + length (now list) * 8 ≤ length (now store)) × Edged (now edges) (now begins) ⌝ }
     ensures { λ r. ⌜ r ≡ same (part (now (store .entry)) (entryPlace task tally) (entryPlace task tally + length (now (list .entry)) * 8)) (listRecords (forwardWords (now (edges .entry))) (idsOf key) (now (list .entry))) ⌝ }
@@ -246,13 +246,13 @@ fn list_agrees(
 
 // Whether the store has the group and its entries at their places.
 fn one_agrees(
-    task: Task,
+    task: Purpose,
     edges: &[u8],
     begins: &[u32],
     key: Key,
     list: &[u32],
     store: &[u8],
-    tally: Tally,
+    tally: Progress,
 ) -> bool
     requires { ⌜ Fits task tally (length (now list)) (length (now store)) × Edged (now edges) (now begins) ⌝ }
     ensures { λ r. ⌜ r ≡ agrees task (forwardWords (now (edges .entry))) (key .constraint) (idsOf key) (now (list .entry)) tally (now (store .entry)) ⌝ }
@@ -264,24 +264,24 @@ fn one_agrees(
 
 // Does with a key and its list what the task asks.
 pub fn emit_one(
-    task: Task,
+    task: Purpose,
     edges: &[u8],
     begins: &[u32],
     key: Key,
     list: &[u32],
     store: &[u8],
     room: &mut [u8],
-    tally: Tally,
-) -> Tally
+    tally: Progress,
+) -> Progress
     requires { ⌜ ((length (now list) ≤ 65536) × Placed task (length (now store)) (length (now room))) × Edged (now edges) (now begins) ⌝ }
-    ensures { λ r. ⌜ sinkOf r (now (room .exit)) ≡ emit task (forwardWords (now (edges .entry))) (now (store .entry)) (sinkOf tally (now (room .entry))) (key .constraint) (idsOf key) (now (list .entry)) ⌝ }
+    ensures { λ r. ⌜ outputOf r (now (room .exit)) ≡ emit task (forwardWords (now (edges .entry))) (now (store .entry)) (outputOf tally (now (room .entry))) (key .constraint) (idsOf key) (now (list .entry)) ⌝ }
 {
     if tally.stopped {
         return tally;
     }
     let n = list.len() as u32;
     if !is_within(task, tally, n) {
-        return Tally {
+        return Progress {
             groups: tally.groups,
             entries: tally.entries,
             stopped: true,

@@ -25,12 +25,12 @@ use Rattle.build_neighbours.specs.Useful.{reaches}
 use Rattle.build_neighbours.specs.Left.{labelsLeft, labelsIn}
 use Rattle.build_neighbours.specs.declared.Labels.{Labels}
 use Rattle.build_groups.specs.Keyed.{Keyed, keyedFrom}
-use Rattle.build_groups.specs.Emit.{Sink, sinkOf, emitAll, Placed}
-use Rattle.build_keys.specs.Walk.{withId, chosen, Fit, Done}
+use Rattle.build_groups.specs.Emit.{Output, outputOf, emitAll, Placed}
+use Rattle.build_keys.specs.Walk.{withId, chosen, WalkFit, WalkDone}
 use Rattle.build_keys.specs.Pass.{taskFor, keyedBy, visited, visitedAll, nothing, passed}
-use Rattle.build_groups.specs.declared.Task.{Task}
-use Rattle.build_groups.specs.declared.Tally.{Tally}
-use Rattle.build_index.specs.Ready.{dealt, Fresh, Ready}
+use Rattle.build_groups.specs.declared.Purpose.{Purpose}
+use Rattle.build_groups.specs.declared.Progress.{Progress}
+use Rattle.build_index.specs.Ready.{dealt, Fresh, IndexReady}
 use Rattle.build_edges.proofs.Nearby.{labelled-strict}
 use Rattle.build_neighbours.proofs.Pairing.{labelled-below}
 use Rattle.build_keys.proofs.Turning.{listed-keep}
@@ -62,9 +62,9 @@ two-left left z = go (eqb (left .first) 0) (eqb (left .second) 0)
     go false false = rw last (omega arith)
 
 -- ---- a walk fits
-module _ {task : Task} {nodes joined starts edges begins a b c d e store room : List ℕ} {l : ℕ} (r : Ready task nodes joined starts edges begins a b c d e store room) (key : Key)
+module _ {task : Purpose} {nodes joined starts edges begins a b c d e store room : List ℕ} {l : ℕ} (r : IndexReady task nodes joined starts edges begins a b c d e store room) (key : Key)
     (fresh : Fresh key) where
-  pub fit-none : {list : List ℕ} {left : Labels} → left ≡ record { first = 0; second = 0; third = 0 } → list ≡ labelledIn nodes l → Fit task nodes joined starts edges begins l left key 0 list b c d e store room
+  pub fit-none : {list : List ℕ} {left : Labels} → left ≡ record { first = 0; second = 0; third = 0 } → list ≡ labelledIn nodes l → WalkFit task nodes joined starts edges begins l left key 0 list b c d e store room
   unfolding labelsLeft
   fit-none {list} {left} z q =
       let few = r .held .few in
@@ -84,7 +84,7 @@ module _ {task : Task} {nodes joined starts edges begins a b c d e store room : 
       }
 
   pub fit-from : {list : List ℕ} {left : Labels} {key′ : Key} (u : ℕ) (p q : ℕ → Bool) → left .third ≡ 0 → key′ ≡ withId key 0 u → list ≡ keep p (keep q (labelledIn nodes l))
-      → Fit task nodes joined starts edges begins l left key′ 1 list b c d e store room
+      → WalkFit task nodes joined starts edges begins l left key′ 1 list b c d e store room
   fit-from {list} {left} {key′} u p q z k m =
       let few = r .held .few in
       let less = labelled-few nodes l in
@@ -105,9 +105,9 @@ module _ {task : Task} {nodes joined starts edges begins a b c d e store room : 
       }
 
 -- rooms of the same length serve as well
-pub ready-same : {task : Task} {nodes joined starts edges begins a b c d e store room a′ b′ c′ d′ e′ room′ : List ℕ} → Ready task nodes joined starts edges begins a b c d e store room
+pub ready-same : {task : Purpose} {nodes joined starts edges begins a b c d e store room a′ b′ c′ d′ e′ room′ : List ℕ} → IndexReady task nodes joined starts edges begins a b c d e store room
     → length a′ ≡ length a → length b′ ≡ length b → length c′ ≡ length c → length d′ ≡ length d → length e′ ≡ length e → length room′ ≡ length room
-    → Ready task nodes joined starts edges begins a′ b′ c′ d′ e′ store room′
+    → IndexReady task nodes joined starts edges begins a′ b′ c′ d′ e′ store room′
 ready-same r ea eb ec ed ee er = record {
   placed = rw er (r .placed);
   held = r .held;
@@ -118,8 +118,8 @@ ready-same r ea eb ec ed ee er = record {
 }
 
 -- so it does for the task of a constraint
-pub ready-own : {task own : Task} {nodes joined starts edges begins a b c d e store room : List ℕ} (x : Constraint) → own ≡ taskFor task x
-    → Ready task nodes joined starts edges begins a b c d e store room → Ready own nodes joined starts edges begins a b c d e store room
+pub ready-own : {task own : Purpose} {nodes joined starts edges begins a b c d e store room : List ℕ} (x : Constraint) → own ≡ taskFor task x
+    → IndexReady task nodes joined starts edges begins a b c d e store room → IndexReady own nodes joined starts edges begins a b c d e store room
 ready-own x q r = rw q (record {
   placed = record {
     writes = λ m. record { table = r .placed .writes m .table; lists = r .placed .writes m .lists };
@@ -133,27 +133,27 @@ ready-own x q r = rw q (record {
 })
 
 -- ---- what a walk deals with
-module _ (task : Task) (nodes joined words store : List ℕ) (t : Tally) (room : List ℕ) (t′ : Tally) (room′ : List ℕ) (key : Key) where
+module _ (task : Purpose) (nodes joined words store : List ℕ) (t : Progress) (room : List ℕ) (t′ : Progress) (room′ : List ℕ) (key : Key) where
   pub none-dealt : {left : Labels} {list : List ℕ} → left ≡ record { first = 0; second = 0; third = 0 } → (list′ : List ℕ) → list ≡ list′
-      → Done task nodes joined words left key 0 list store t room t′ room′ → sinkOf t′ room′ ≡ dealt task nodes joined words [] key [] list′ store (sinkOf t room)
+      → WalkDone task nodes joined words left key 0 list store t room t′ room′ → outputOf t′ room′ ≡ dealt task nodes joined words [] key [] list′ store (outputOf t room)
   unfolding dealt
   none-dealt {left} {list} z list′ q d =
       let labels : labelsIn left ≡ [] = labels-none (left .first) (left .second) (left .third) (ap (λ x. x .first) z) in
       rw (labels, q) at (d .all)
 
   pub from-dealt : {left : Labels} {list : List ℕ} {key′ : Key} (u l : ℕ) → key′ ≡ withId key 0 u → list ≡ keep (reaches (wordIn joined) (labelledIn nodes) (labelsIn left)) (sideOf nodes joined u l)
-      → Done task nodes joined words left key′ 1 list store t room t′ room′
-      → sinkOf t′ room′ ≡ dealt task nodes joined words (labelsIn left) key (u ∷ []) (sideOf nodes joined u l) store (sinkOf t room)
+      → WalkDone task nodes joined words left key′ 1 list store t room t′ room′
+      → outputOf t′ room′ ≡ dealt task nodes joined words (labelsIn left) key (u ∷ []) (sideOf nodes joined u l) store (outputOf t room)
   unfolding dealt
   from-dealt {left} {list} {key′} u l k q d =
       let c : key′ .constraint ≡ key .constraint = ap (λ x. x .constraint) k ∙ with-constraint key 0 u in
       let ids : chosen key′ 1 ≡ u ∷ [] = ap (λ x. chosen x 1) k ∙ chosen-more key 0 u (omega arith) in
       rw (c, ids, q) at (d .all)
-      ∙ ap (emitAll task words store (key .constraint) (sinkOf t room))
+      ∙ ap (emitAll task words store (key .constraint) (outputOf t room))
       (sym (keyed-useful (wordIn joined) (labelledIn nodes) (task .above) (labelsIn left) (u ∷ []) (sideOf nodes joined u l)))
 
 -- ---- node by node
-module _ (task : Task) (nodes joined words : List ℕ) (labels : List ℕ) (key : Key) (l s : ℕ) (store : List ℕ) where
+module _ (task : Purpose) (nodes joined words : List ℕ) (labels : List ℕ) (key : Key) (l s : ℕ) (store : List ℕ) where
   abbrev onward : ℕ → List Keyed
   onward u = keyedFrom (wordIn joined) (labelledIn nodes) (task .above) labels (u ∷ []) (sideOf nodes joined u l)
 
@@ -161,21 +161,21 @@ module _ (task : Task) (nodes joined words : List ℕ) (labels : List ℕ) (key 
   leftFrom u = flatMap onward (keep (hasLabel nodes s) (range u (nodesIn nodes - u)))
 
   -- what is left to do is what the nodes from u on lead to
-  pub record Left (whole : Sink) (u : ℕ) (t : Tally) (room : List ℕ) : Type 0 where
+  pub record Left (whole : Output) (u : ℕ) (t : Progress) (room : List ℕ) : Type 0 where
     pub within : u ≤ nodesIn nodes
-    pub todo : emitAll task words store (key .constraint) (sinkOf t room) (leftFrom u) ≡ whole
+    pub todo : emitAll task words store (key .constraint) (outputOf t room) (leftFrom u) ≡ whole
 
-  abbrev pub wholeOf : Tally → List ℕ → Sink
-  wholeOf t room = dealt task nodes joined words (s ∷ labels) key [] (labelledIn nodes l) store (sinkOf t room)
+  abbrev pub wholeOf : Progress → List ℕ → Output
+  wholeOf t room = dealt task nodes joined words (s ∷ labels) key [] (labelledIn nodes l) store (outputOf t room)
 
-  pub left-start : (t : Tally) (room : List ℕ) → Left (wholeOf t room) 0 t room
+  pub left-start : (t : Progress) (room : List ℕ) → Left (wholeOf t room) 0 t room
   unfolding dealt labelledIn
   left-start t room = record {
     within = omega arith;
-    todo = rw sub-zero (ap (emitAll task words store (key .constraint) (sinkOf t room)) (sym (keyed-flat (wordIn joined) (labelledIn nodes) (task .above) s labels [] (labelledIn nodes l))));
+    todo = rw sub-zero (ap (emitAll task words store (key .constraint) (outputOf t room)) (sym (keyed-flat (wordIn joined) (labelledIn nodes) (task .above) s labels [] (labelledIn nodes l))));
   }
 
-  module _ {whole : Sink} {u : ℕ} {t : Tally} {room : List ℕ} (g : Left whole u t room) where
+  module _ {whole : Output} {u : ℕ} {t : Progress} {room : List ℕ} (g : Left whole u t room) where
     split : u < nodesIn nodes → range u (nodesIn nodes - u) ≡ u ∷ range (u + 1) (nodesIn nodes - (u + 1))
     unfolding range
     split h = let e : nodesIn nodes - u ≡ suc (nodesIn nodes - (u + 1)) = omega arith in rw e
@@ -184,28 +184,28 @@ module _ (task : Task) (nodes joined words : List ℕ) (labels : List ℕ) (key 
     left-skip h n = record {
       within = omega arith;
       todo =
-          ap (λ xs. emitAll task words store (key .constraint) (sinkOf t room) (flatMap onward xs))
+          ap (λ xs. emitAll task words store (key .constraint) (outputOf t room) (flatMap onward xs))
           (sym (ap (keep (hasLabel nodes s)) (split h) ∙ keep-no (hasLabel nodes s) u (range (u + 1) (nodesIn nodes - (u + 1))) n))
           ∙ g .todo;
     }
 
-    pub left-take : {t′ : Tally} {room′ : List ℕ} → u < nodesIn nodes → hasLabel nodes s u ≡ true
-        → sinkOf t′ room′ ≡ dealt task nodes joined words labels key (u ∷ []) (sideOf nodes joined u l) store (sinkOf t room) → Left whole (u + 1) t′ room′
+    pub left-take : {t′ : Progress} {room′ : List ℕ} → u < nodesIn nodes → hasLabel nodes s u ≡ true
+        → outputOf t′ room′ ≡ dealt task nodes joined words labels key (u ∷ []) (sideOf nodes joined u l) store (outputOf t room) → Left whole (u + 1) t′ room′
     unfolding dealt flatMap
     left-take {t′} {room′} h n d = record {
       within = omega arith;
       todo =
           ap (λ x. emitAll task words store (key .constraint) x (leftFrom (u + 1))) d
-          ∙ sym (emitAll-append task words store (key .constraint) (sinkOf t room) (onward u) (leftFrom (u + 1)))
-          ∙ ap (λ xs. emitAll task words store (key .constraint) (sinkOf t room) (flatMap onward xs))
+          ∙ sym (emitAll-append task words store (key .constraint) (outputOf t room) (onward u) (leftFrom (u + 1)))
+          ∙ ap (λ xs. emitAll task words store (key .constraint) (outputOf t room) (flatMap onward xs))
           (sym (ap (keep (hasLabel nodes s)) (split h) ∙ keep-yes (hasLabel nodes s) u (range (u + 1) (nodesIn nodes - (u + 1))) n))
           ∙ g .todo;
     }
 
-    pub left-stopped : t .stopped ≡ true → sinkOf t room ≡ whole
+    pub left-stopped : t .stopped ≡ true → outputOf t room ≡ whole
     left-stopped h = sym (emitAll-stopped task words store (key .constraint) t room (leftFrom u) h) ∙ g .todo
 
-    pub left-none : nodesIn nodes ≤ u → sinkOf t room ≡ whole
+    pub left-none : nodesIn nodes ≤ u → outputOf t room ≡ whole
     unfolding emitAll flatMap range keep
     left-none h = let e : nodesIn nodes - u ≡ 0 = omega arith in rw e at (g .todo)
 
@@ -214,8 +214,8 @@ pub fresh-key : (n : ℕ) → Fresh (record { constraint = n; first = noId; seco
 unfolding padded
 fresh-key n = refl
 
-module _ (task : Task) (nodes joined words constraints store : List ℕ) (n : ℕ) (s r : Sink) where
-  pub visited-none : {own : Task} {x : Constraint} (key : Key) → x ≡ constraintAt constraints n → own ≡ taskFor task x → key .constraint ≡ n → x .first ≡ 0
+module _ (task : Purpose) (nodes joined words constraints store : List ℕ) (n : ℕ) (s r : Output) where
+  pub visited-none : {own : Purpose} {x : Constraint} (key : Key) → x ≡ constraintAt constraints n → own ≡ taskFor task x → key .constraint ≡ n → x .first ≡ 0
       → r ≡ dealt own nodes joined words [] key [] (labelledIn nodes (x .label)) store s → r ≡ visited task nodes joined words constraints store n s
   unfolding dealt visited keyedBy
   visited-none {own} {x} key p e k z d =
@@ -224,7 +224,7 @@ module _ (task : Task) (nodes joined words constraints store : List ℕ) (n : �
       ∙ ap (λ ls. emitAll (taskFor task x) words store n s (keyedFrom (wordIn joined) (labelledIn nodes) (taskFor task x .above) ls [] (labelledIn nodes (x .label)))) (sym labels)
       ∙ ap (λ x. emitAll (taskFor task x) words store n s (keyedBy task nodes joined x)) p
 
-  pub visited-each : {own : Task} {x : Constraint} {left : Labels} (key : Key) → x ≡ constraintAt constraints n → own ≡ taskFor task x → key .constraint ≡ n → (x .first ≡ 0 → ⊥)
+  pub visited-each : {own : Purpose} {x : Constraint} {left : Labels} (key : Key) → x ≡ constraintAt constraints n → own ≡ taskFor task x → key .constraint ≡ n → (x .first ≡ 0 → ⊥)
       → left ≡ record { first = x .second; second = x .third; third = 0 }
       → r ≡ dealt own nodes joined words (x .first ∷ labelsIn left) key [] (labelledIn nodes (x .label)) store s → r ≡ visited task nodes joined words constraints store n s
   unfolding dealt visited keyedBy
@@ -235,9 +235,9 @@ module _ (task : Task) (nodes joined words constraints store : List ℕ) (n : �
       ∙ ap (λ x. emitAll (taskFor task x) words store n s (keyedBy task nodes joined x)) p
 
 -- ---- the whole of a store
-pub ready-pass : (task : Task) (s nodes joined starts edges begins a b c d e store room : List ℕ) → nodes ≡ nodePart s → edges ≡ edgePart s → Sound s → Arranged (nodePart s) joined → Joined (setOf joined)
+pub ready-pass : (task : Purpose) (s nodes joined starts edges begins a b c d e store room : List ℕ) → nodes ≡ nodePart s → edges ≡ edgePart s → Sound s → Arranged (nodePart s) joined → Joined (setOf joined)
     → Begun joined starts → Begun (forwardWords edges) begins → Placed task (length store) (length room) → 65536 ≤ length a → (65536 ≤ length b) × (65536 ≤ length d)
-    → (65536 ≤ length c) × (65536 ≤ length e) → Ready task nodes joined starts edges begins a b c d e store room
+    → (65536 ≤ length c) × (65536 ≤ length e) → IndexReady task nodes joined starts edges begins a b c d e store room
 ready-pass task s nodes joined starts edges begins a b c d e store room en ee h arranged both begun ended p one two three = record {
   placed = p;
   held = record { few = rw en (h .nodes); arranged = rw en arranged; both = both; begun = begun };
@@ -247,7 +247,7 @@ ready-pass task s nodes joined starts edges begins a b c d e store room en ee h 
   three = three;
 }
 
-pub pass-done : (task : Task) (s nodes edges constraints joined store room : List ℕ) (r : Sink) → nodes ≡ nodePart s → edges ≡ edgePart s → constraints ≡ constraintPart s
-    → setOf joined ≡ joinedSet (edgePart s) → r ≡ visitedAll task nodes (setOf joined) (forwardWords edges) constraints store (sinkOf nothing room) → r ≡ passed task s store room
+pub pass-done : (task : Purpose) (s nodes edges constraints joined store room : List ℕ) (r : Output) → nodes ≡ nodePart s → edges ≡ edgePart s → constraints ≡ constraintPart s
+    → setOf joined ≡ joinedSet (edgePart s) → r ≡ visitedAll task nodes (setOf joined) (forwardWords edges) constraints store (outputOf nothing room) → r ≡ passed task s store room
 unfolding passed
 pass-done task s nodes edges constraints joined store room r en ee ec ej e = rw (en, ee, ec, ej) at e

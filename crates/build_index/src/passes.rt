@@ -1,6 +1,6 @@
 // A pass over all constraints of a graph: a walk over the keys of each.
-use build_groups::Tally;
-use build_groups::Task;
+use build_groups::Progress;
+use build_groups::Purpose;
 use build_neighbours::Labels;
 use rules::Constraint;
 use rules::Key;
@@ -13,16 +13,16 @@ ghost use Rattle.rules.specs.Store.{constraintsIn};
 ghost use Rattle.build_edges.specs.Packed.{forwardWords, labelledIn};
 ghost use Rattle.build_neighbours.specs.Side.{sideOf};
 ghost use Rattle.build_neighbours.specs.Left.{labelsIn};
-ghost use Rattle.build_groups.specs.Emit.{sinkOf, Placed};
+ghost use Rattle.build_groups.specs.Emit.{outputOf, Placed};
 ghost use Rattle.build_keys.specs.Pass.{taskFor, visited, visitedAll, Laid, passed};
-ghost use Rattle.build_index.specs.Ready.{Fresh, Ready, dealt};
+ghost use Rattle.build_index.specs.Ready.{Fresh, IndexReady, dealt};
 
 // The task for a constraint: where it asks for lists above N, those above this constraint's.
-fn task_for(task: Task, d: Constraint) -> Task
+fn task_for(task: Purpose, d: Constraint) -> Purpose
     ensures { λ r. ⌜ r ≡ taskFor task d ⌝ }
 {
     let above = if task.above == 0 { 0 } else { d.most };
-    Task {
+    Purpose {
         mode: task.mode,
         above: above,
         groups: task.groups,
@@ -34,7 +34,7 @@ fn task_for(task: Task, d: Constraint) -> Task
 
 // Goes through the one key of a constraint without labels.
 fn visit_none(
-    task: Task,
+    task: Purpose,
     nodes: &[u8],
     joined: &[u32],
     starts: &[u32],
@@ -49,10 +49,10 @@ fn visit_none(
     third: &mut [u32],
     store: &[u8],
     room: &mut [u8],
-    tally: Tally,
-) -> Tally
-    requires { ⌜ Fresh key × Ready task (now nodes) (now joined) (now starts) (now edges) (now begins) (now one) (now two) (now three) (now second) (now third) (now store) (now room) ⌝ }
-    ensures { λ r. ⌜ sinkOf r (now (room .exit)) ≡ dealt task (now (nodes .entry)) (setOf (now (joined .entry))) (forwardWords (now (edges .entry))) [] key [] (labelledIn (now (nodes .entry)) l) (now (store .entry)) (sinkOf tally (now (room .entry))) ⌝ }
+    tally: Progress,
+) -> Progress
+    requires { ⌜ Fresh key × IndexReady task (now nodes) (now joined) (now starts) (now edges) (now begins) (now one) (now two) (now three) (now second) (now third) (now store) (now room) ⌝ }
+    ensures { λ r. ⌜ outputOf r (now (room .exit)) ≡ dealt task (now (nodes .entry)) (setOf (now (joined .entry))) (forwardWords (now (edges .entry))) [] key [] (labelledIn (now (nodes .entry)) l) (now (store .entry)) (outputOf tally (now (room .entry))) ⌝ }
 {
     let none = Labels {
         first: 0,
@@ -84,7 +84,7 @@ fn visit_none(
 
 // Goes through the keys that begin with u and go on with nodes of the labels left.
 fn visit_from(
-    task: Task,
+    task: Purpose,
     nodes: &[u8],
     joined: &[u32],
     starts: &[u32],
@@ -101,10 +101,10 @@ fn visit_from(
     third: &mut [u32],
     store: &[u8],
     room: &mut [u8],
-    tally: Tally,
-) -> Tally
-    requires { ⌜ ((u < 65535) × ((left .third ≡ 0) × Fresh key)) × Ready task (now nodes) (now joined) (now starts) (now edges) (now begins) (now one) (now two) (now three) (now second) (now third) (now store) (now room) ⌝ }
-    ensures { λ r. ⌜ sinkOf r (now (room .exit)) ≡ dealt task (now (nodes .entry)) (setOf (now (joined .entry))) (forwardWords (now (edges .entry))) (labelsIn left) key (u ∷ []) (sideOf (now (nodes .entry)) (setOf (now (joined .entry))) u l) (now (store .entry)) (sinkOf tally (now (room .entry))) ⌝ }
+    tally: Progress,
+) -> Progress
+    requires { ⌜ ((u < 65535) × ((left .third ≡ 0) × Fresh key)) × IndexReady task (now nodes) (now joined) (now starts) (now edges) (now begins) (now one) (now two) (now three) (now second) (now third) (now store) (now room) ⌝ }
+    ensures { λ r. ⌜ outputOf r (now (room .exit)) ≡ dealt task (now (nodes .entry)) (setOf (now (joined .entry))) (forwardWords (now (edges .entry))) (labelsIn left) key (u ∷ []) (sideOf (now (nodes .entry)) (setOf (now (joined .entry))) u l) (now (store .entry)) (outputOf tally (now (room .entry))) ⌝ }
 {
     let k = build_neighbours::useful(nodes, joined, starts, l, left, u, one);
     build_keys::walk(
@@ -131,7 +131,7 @@ fn visit_from(
 
 // Goes through the keys that begin with a node labelled s and go on with nodes of the labels left.
 fn visit_each(
-    task: Task,
+    task: Purpose,
     nodes: &[u8],
     joined: &[u32],
     starts: &[u32],
@@ -148,10 +148,10 @@ fn visit_each(
     third: &mut [u32],
     store: &[u8],
     room: &mut [u8],
-    tally: Tally,
-) -> Tally
-    requires { ⌜ ((left .third ≡ 0) × Fresh key) × Ready task (now nodes) (now joined) (now starts) (now edges) (now begins) (now one) (now two) (now three) (now second) (now third) (now store) (now room) ⌝ }
-    ensures { λ r. ⌜ sinkOf r (now (room .exit)) ≡ dealt task (now (nodes .entry)) (setOf (now (joined .entry))) (forwardWords (now (edges .entry))) (s ∷ labelsIn left) key [] (labelledIn (now (nodes .entry)) l) (now (store .entry)) (sinkOf tally (now (room .entry))) ⌝ }
+    tally: Progress,
+) -> Progress
+    requires { ⌜ ((left .third ≡ 0) × Fresh key) × IndexReady task (now nodes) (now joined) (now starts) (now edges) (now begins) (now one) (now two) (now three) (now second) (now third) (now store) (now room) ⌝ }
+    ensures { λ r. ⌜ outputOf r (now (room .exit)) ≡ dealt task (now (nodes .entry)) (setOf (now (joined .entry))) (forwardWords (now (edges .entry))) (s ∷ labelsIn left) key [] (labelledIn (now (nodes .entry)) l) (now (store .entry)) (outputOf tally (now (room .entry))) ⌝ }
 {
     let n = nodes.len() / 8;
     let mut t = tally;
@@ -190,7 +190,7 @@ fn visit_each(
 
 // Goes through the keys of constraint c.
 fn visit(
-    task: Task,
+    task: Purpose,
     nodes: &[u8],
     joined: &[u32],
     starts: &[u32],
@@ -205,10 +205,10 @@ fn visit(
     third: &mut [u32],
     store: &[u8],
     room: &mut [u8],
-    tally: Tally,
-) -> Tally
-    requires { ⌜ ((c < constraintsIn (now constraints)) × (constraintsIn (now constraints) ≤ 32)) × Ready task (now nodes) (now joined) (now starts) (now edges) (now begins) (now one) (now two) (now three) (now second) (now third) (now store) (now room) ⌝ }
-    ensures { λ r. ⌜ sinkOf r (now (room .exit)) ≡ visited task (now (nodes .entry)) (setOf (now (joined .entry))) (forwardWords (now (edges .entry))) (now (constraints .entry)) (now (store .entry)) c (sinkOf tally (now (room .entry))) ⌝ }
+    tally: Progress,
+) -> Progress
+    requires { ⌜ ((c < constraintsIn (now constraints)) × (constraintsIn (now constraints) ≤ 32)) × IndexReady task (now nodes) (now joined) (now starts) (now edges) (now begins) (now one) (now two) (now three) (now second) (now third) (now store) (now room) ⌝ }
+    ensures { λ r. ⌜ outputOf r (now (room .exit)) ≡ visited task (now (nodes .entry)) (setOf (now (joined .entry))) (forwardWords (now (edges .entry))) (now (constraints .entry)) (now (store .entry)) c (outputOf tally (now (room .entry))) ⌝ }
 {
     let d = store::constraint_at(constraints, c);
     let own = task_for(task, d);
@@ -267,7 +267,7 @@ fn visit(
 
 // Goes through the keys of every constraint.
 fn visit_all(
-    task: Task,
+    task: Purpose,
     nodes: &[u8],
     joined: &[u32],
     starts: &[u32],
@@ -281,10 +281,10 @@ fn visit_all(
     third: &mut [u32],
     store: &[u8],
     room: &mut [u8],
-    tally: Tally,
-) -> Tally
-    requires { ⌜ (constraintsIn (now constraints) ≤ 32) × Ready task (now nodes) (now joined) (now starts) (now edges) (now begins) (now one) (now two) (now three) (now second) (now third) (now store) (now room) ⌝ }
-    ensures { λ r. ⌜ sinkOf r (now (room .exit)) ≡ visitedAll task (now (nodes .entry)) (setOf (now (joined .entry))) (forwardWords (now (edges .entry))) (now (constraints .entry)) (now (store .entry)) (sinkOf tally (now (room .entry))) ⌝ }
+    tally: Progress,
+) -> Progress
+    requires { ⌜ (constraintsIn (now constraints) ≤ 32) × IndexReady task (now nodes) (now joined) (now starts) (now edges) (now begins) (now one) (now two) (now three) (now second) (now third) (now store) (now room) ⌝ }
+    ensures { λ r. ⌜ outputOf r (now (room .exit)) ≡ visitedAll task (now (nodes .entry)) (setOf (now (joined .entry))) (forwardWords (now (edges .entry))) (now (constraints .entry)) (now (store .entry)) (outputOf tally (now (room .entry))) ⌝ }
 {
     let k = constraints.len() / 12;
     let mut t = tally;
@@ -314,9 +314,9 @@ fn visit_all(
 }
 
 // Counts, writes or compares all groups of the graph of s, whose edges both ways round are arranged.
-pub fn pass(task: Task, s: &[u8], joined: &[u32], store: &[u8], room: &mut [u8]) -> Tally
+pub fn pass(task: Purpose, s: &[u8], joined: &[u32], store: &[u8], room: &mut [u8]) -> Progress
     requires { ⌜ Laid (now s) (now joined) × Placed task (length (now store)) (length (now room)) ⌝ }
-    ensures { λ r. ⌜ sinkOf r (now (room .exit)) ≡ passed task (now (s .entry)) (now (store .entry)) (now (room .entry)) ⌝ }
+    ensures { λ r. ⌜ outputOf r (now (room .exit)) ≡ passed task (now (s .entry)) (now (store .entry)) (now (room .entry)) ⌝ }
 {
     let nodes = store::node_part(s);
     let edges = store::edge_part(s);
@@ -330,7 +330,7 @@ pub fn pass(task: Task, s: &[u8], joined: &[u32], store: &[u8], room: &mut [u8])
     let mut third = [0u32; 65536];
     build_edges::put_starts(joined, &mut starts);
     build_edges::put_begins(edges, &mut begins);
-    let tally = Tally {
+    let tally = Progress {
         groups: 0,
         entries: 0,
         stopped: false,

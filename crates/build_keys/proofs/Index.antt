@@ -21,10 +21,10 @@ use Rattle.build_edges.specs.Packed.{EdgesBelow, forwardWords, wordIn, labelled
 use Rattle.build_edges.specs.Sound.{joinedSet, Sound}
 use Rattle.build_neighbours.specs.Left.{labelsLeft}
 use Rattle.build_groups.specs.Keyed.{keyedFrom}
-use Rattle.build_groups.specs.Emit.{sinkOf, Placed}
+use Rattle.build_groups.specs.Emit.{outputOf, Placed}
 use Rattle.build_keys.specs.Pass.{aboveFor, keyedBy, Right, nothing, passed}
-use Rattle.build_groups.specs.declared.Task.{Task}
-use Rattle.build_groups.specs.declared.Tally.{Tally}
+use Rattle.build_groups.specs.declared.Purpose.{Purpose}
+use Rattle.build_groups.specs.declared.Progress.{Progress}
 use Rattle.build_edges.proofs.Edges.{less-word, words-strict}
 use Rattle.build_keys.proofs.Groups.{keyedIn, toGroup, groups-of, satisfies-keyed, map-append, map-map}
 use Rattle.build_keys.proofs.Graphs.{graph-joined, graph-labelled, labels-of}
@@ -121,7 +121,7 @@ keyed-any nodes edges below t d h =
     ∙ ap (λ lab. keyedFrom (λ u v. neighbours g v u) lab t (labelsLeft (d .first) (d .second) (d .third)) [] (lab (d .label))) (graph-labelled nodes edges)
     ∙ ap (λ l. keyedFrom (λ u v. neighbours g v u) (labelled g) t l [] (labelled g (d .label))) (labels-of d h)
 
-module _ (task : Task) (nodes edges : List ℕ) (below : EdgesBelow edges) where
+module _ (task : Purpose) (nodes edges : List ℕ) (below : EdgesBelow edges) where
   keyed-by : (d : Constraint) → constraintAlone d ≡ true → keyedBy task nodes (joinedSet edges) d ≡ keyedIn (graphOf nodes edges) (aboveFor task d) d
   unfolding keyedBy
   keyed-by d h = keyed-any nodes edges below (aboveFor task d) d h
@@ -185,13 +185,13 @@ module _ {s : List ℕ} (right : Right s) where
   pub right-sound : Sound s
   right-sound = sound s (right .header) (right .records)
 
-  module _ (task : Task) (store : List ℕ) where
+  module _ (task : Purpose) (store : List ℕ) where
     unfoldable pub itemsOf : List Item
     itemsOf = itemsFrom task (forwardWords (edgePart s)) store (nodePart s) (joinedSet (edgePart s)) (constraintPart s) 0 (constraintsIn (constraintPart s))
 
-    pub passed-items : (room : List ℕ) → passed task s store room ≡ emitItems task (forwardWords (edgePart s)) store (sinkOf nothing room) itemsOf
+    pub passed-items : (room : List ℕ) → passed task s store room ≡ emitItems task (forwardWords (edgePart s)) store (outputOf nothing room) itemsOf
     unfolding passed itemsOf
-    passed-items room = visited-items task (forwardWords (edgePart s)) store (nodePart s) (joinedSet (edgePart s)) (constraintPart s) (sinkOf nothing room)
+    passed-items room = visited-items task (forwardWords (edgePart s)) store (nodePart s) (joinedSet (edgePart s)) (constraintPart s) (outputOf nothing room)
 
     pub index-items : task .above ≡ 0 → map (groupFor (storeGraph s)) itemsOf ≡ storeIndex s
     unfolding storeIndex indexOf storeGraph itemsOf
@@ -215,16 +215,16 @@ unfolding total
 none-total [] h = refl
 none-total (x ∷ xs) h = absurd (omega arith)
 
-pub placed-count : (task : Task) (a b : ℕ) → task .mode ≡ 0 → Placed task a b
+pub placed-count : (task : Purpose) (a b : ℕ) → task .mode ≡ 0 → Placed task a b
 placed-count task a b z = record { writes = λ o. let q : _≡_ {A = ℕ} 0 1 = sym z ∙ o in absurd (omega arith); reads = λ n o. absurd (n z) }
 
-abbrev pub exceedTask : Task
+abbrev pub exceedTask : Purpose
 exceedTask = record { mode = 0; above = 1; groups = 0; entries = 1048576; table = 0; lists = 0 }
 
-abbrev pub countTask : Task
+abbrev pub countTask : Purpose
 countTask = record { mode = 0; above = 0; groups = 262144; entries = 1048576; table = 0; lists = 0 }
 
-pub exceeds-told : {s : List ℕ} → Right s → (r : Tally) (room room′ : List ℕ) → sinkOf r room′ ≡ passed exceedTask s s room → r .stopped ≡ exceeds s
+pub exceeds-told : {s : List ℕ} → Right s → (r : Progress) (room room′ : List ℕ) → outputOf r room′ ≡ passed exceedTask s s room → r .stopped ≡ exceeds s
 exceeds-told {s} right r room room′ e = go (decLe (length xs) 0)
   where
     xs : List Item
@@ -233,7 +233,7 @@ exceeds-told {s} right r room room′ e = go (decLe (length xs) 0)
     words : List ℕ
     words = forwardWords (edgePart s)
 
-    e′ : r .stopped ≡ emitItems exceedTask words s (sinkOf nothing room) xs .tally .stopped
+    e′ : r .stopped ≡ emitItems exceedTask words s (outputOf nothing room) xs .tally .stopped
     e′ = ap (λ x. x .tally .stopped) (e ∙ passed-items right exceedTask s room)
 
     x : exceeds s ≡ not (eqb (length xs) 0)
@@ -246,7 +246,7 @@ exceeds-told {s} right r room room′ e = go (decLe (length xs) 0)
     go (no h) =
         e′ ∙ count-over exceedTask words s refl 0 0 room xs (omega arith) (omega arith) (λ a b. h (omega arith)) ∙ sym (x ∙ ap not (ne-eqb (length xs) 0 (λ z. h (omega arith))))
 
-pub count-told : {s : List ℕ} → Right s → (r : Tally) (room room′ : List ℕ) → sinkOf r room′ ≡ passed countTask s s room
+pub count-told : {s : List ℕ} → Right s → (r : Progress) (room room′ : List ℕ) → outputOf r room′ ≡ passed countTask s s room
     → (r .stopped ≡ tooMany s) × (r .stopped ≡ false → (r .groups ≡ length (storeIndex s)) × (r .entries ≡ entryTotal (storeIndex s)))
 unfolding tooMany
 count-told {s} right r room room′ e = go (decLe (length xs) 262144) (decLe (total xs) 1048576)
@@ -257,7 +257,7 @@ count-told {s} right r room room′ e = go (decLe (length xs) 262144) (decLe (to
     words : List ℕ
     words = forwardWords (edgePart s)
 
-    e′ : sinkOf r room′ ≡ emitItems countTask words s (sinkOf nothing room) xs
+    e′ : outputOf r room′ ≡ emitItems countTask words s (outputOf nothing room) xs
     e′ = e ∙ passed-items right countTask s room
 
     n : length (storeIndex s) ≡ length xs

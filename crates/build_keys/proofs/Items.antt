@@ -19,10 +19,10 @@ use Rattle.rules.specs.declared.Entry.{Entry}
 use Rattle.laws.specs.Cases.{first-holds, second-holds}
 use Rattle.build_edges.specs.Packed.{wordIn}
 use Rattle.build_groups.specs.Keyed.{Keyed}
-use Rattle.build_groups.specs.Emit.{bitsOf, dirsOf, groupRecord, entryRecord, listRecords, Sink, sinkOf, within, counted, written, agrees, emitBy, emit, emitAll}
+use Rattle.build_groups.specs.Emit.{bitsOf, dirsOf, groupRecord, entryRecord, listRecords, Output, outputOf, within, counted, written, agrees, emitBy, emit, emitAll}
 use Rattle.build_keys.specs.Pass.{taskFor, keyedBy, visited, visitedAll}
-use Rattle.build_groups.specs.declared.Task.{Task}
-use Rattle.build_groups.specs.declared.Tally.{Tally}
+use Rattle.build_groups.specs.declared.Purpose.{Purpose}
+use Rattle.build_groups.specs.declared.Progress.{Progress}
 use Rattle.build_groups.proofs.Records.{length-records}
 use Rattle.build_keys.proofs.Groups.{toGroup}
 use Rattle.build_groups.proofs.Emitting.{emit-stopped, emit-over, emit-count}
@@ -50,22 +50,22 @@ unfoldable pub total : List Item → ℕ
 total [] = 0
 total (x ∷ xs) = length (listIn x) + total xs
 
-module _ (task : Task) (words store : List ℕ) where
-  unfoldable pub emitItems : Sink → List Item → Sink
+module _ (task : Purpose) (words store : List ℕ) where
+  unfoldable pub emitItems : Output → List Item → Output
   emitItems s [] = s
   emitItems s (x ∷ xs) = emitItems (emit task words store s (x .constraint) (idsIn x) (listIn x)) xs
 
-  items-append : (s : Sink) (xs ys : List Item) → emitItems s (xs ++ ys) ≡ emitItems (emitItems s xs) ys
+  items-append : (s : Output) (xs ys : List Item) → emitItems s (xs ++ ys) ≡ emitItems (emitItems s xs) ys
   unfolding emitItems
   items-append s [] ys = refl
   items-append s (x ∷ xs) ys = items-append (emit task words store s (x .constraint) (idsIn x) (listIn x)) xs ys
 
   -- the bound on lists doesn't matter once the keys are found
-  same-emit : (d : Constraint) (s : Sink) (c : ℕ) (ids list : List ℕ) → emit (taskFor task d) words store s c ids list ≡ emit task words store s c ids list
+  same-emit : (d : Constraint) (s : Output) (c : ℕ) (ids list : List ℕ) → emit (taskFor task d) words store s c ids list ≡ emit task words store s c ids list
   unfolding emit emitBy within written agrees
   same-emit d s c ids list = refl
 
-  items-all : (d : Constraint) (c : ℕ) (s : Sink) (xs : List Keyed) → emitAll (taskFor task d) words store c s xs ≡ emitItems s (map (item c) xs)
+  items-all : (d : Constraint) (c : ℕ) (s : Output) (xs : List Keyed) → emitAll (taskFor task d) words store c s xs ≡ emitItems s (map (item c) xs)
   unfolding emitAll emitItems
   items-all d c s [] = refl
   items-all d c s (x ∷ xs) =
@@ -76,7 +76,7 @@ module _ (task : Task) (words store : List ℕ) where
     unfoldable pub itemsFrom : ℕ → ℕ → List Item
     itemsFrom k n = flatMap (λ c. map (item c) (keyedBy task nodes joined (constraintAt constraints c))) (range k n)
 
-    fold-items : (k n : ℕ) (s : Sink) → foldFrom (visited task nodes joined words constraints store) k n s ≡ emitItems s (itemsFrom k n)
+    fold-items : (k n : ℕ) (s : Output) → foldFrom (visited task nodes joined words constraints store) k n s ≡ emitItems s (itemsFrom k n)
     unfolding foldFrom range flatMap emitItems itemsFrom visited
     fold-items k zero s = refl
     fold-items k (suc n) s =
@@ -85,36 +85,36 @@ module _ (task : Task) (words store : List ℕ) where
         ∙ ap (λ r. emitItems r (itemsFrom (k + 1) n)) (items-all (constraintAt constraints k) k s (keyedBy task nodes joined (constraintAt constraints k)))
         ∙ sym (items-append s xs (itemsFrom (k + 1) n))
 
-    pub visited-items : (s : Sink) → visitedAll task nodes joined words constraints store s ≡ emitItems s (itemsFrom 0 (constraintsIn constraints))
+    pub visited-items : (s : Output) → visitedAll task nodes joined words constraints store s ≡ emitItems s (itemsFrom 0 (constraintsIn constraints))
     unfolding visitedAll
     visited-items s = fold-items 0 (constraintsIn constraints) s
 
-  pub items-stopped : (t : Tally) (room : List ℕ) (xs : List Item) → t .stopped ≡ true → emitItems (sinkOf t room) xs ≡ sinkOf t room
+  pub items-stopped : (t : Progress) (room : List ℕ) (xs : List Item) → t .stopped ≡ true → emitItems (outputOf t room) xs ≡ outputOf t room
   unfolding emitItems
   items-stopped t room [] h = refl
   items-stopped t room (x ∷ xs) h = ap (λ s. emitItems s xs) (sym (emit-stopped task words store (x .constraint) (idsIn x) (listIn x) t room h)) ∙ items-stopped t room xs h
 
   -- one group more is within the bounds
-  pub inside : (t : Tally) (n : ℕ) → t .groups < task .groups → t .entries + n ≤ task .entries → within task t n ≡ true
+  pub inside : (t : Progress) (n : ℕ) → t .groups < task .groups → t .entries + n ≤ task .entries → within task t n ≡ true
   unfolding within
   inside t n g e = rw (lt-ltb (t .groups) (task .groups) g, le-leb (t .entries + n) (task .entries) e)
 
-  outside-groups : (t : Tally) (n : ℕ) → task .groups ≤ t .groups → within task t n ≡ false
+  outside-groups : (t : Progress) (n : ℕ) → task .groups ≤ t .groups → within task t n ≡ false
   unfolding within
   outside-groups t n g = rw (le-ltb (t .groups) (task .groups) g)
 
-  outside-entries : (t : Tally) (n : ℕ) → task .entries < t .entries + n → within task t n ≡ false
+  outside-entries : (t : Progress) (n : ℕ) → task .entries < t .entries + n → within task t n ≡ false
   unfolding within
   outside-entries t n e = rw (lt-leb (t .entries + n) (task .entries) e) (and-none (ltb (t .groups) (task .groups)))
 
   -- counting, where all are within the bounds
   module _ (mode : task .mode ≡ 0) where
     pub count-fits : (g e : ℕ) (room : List ℕ) (xs : List Item) → g + length xs ≤ task .groups → e + total xs ≤ task .entries
-        → emitItems (sinkOf (record { groups = g; entries = e; stopped = false }) room) xs ≡ sinkOf (record { groups = g + length xs; entries = e + total xs; stopped = false }) room
+        → emitItems (outputOf (record { groups = g; entries = e; stopped = false }) room) xs ≡ outputOf (record { groups = g + length xs; entries = e + total xs; stopped = false }) room
     unfolding emitItems total
     count-fits g e room [] hg he = rw (add-zero, add-zero)
     count-fits g e room (x ∷ xs) hg he =
-        let t : Tally = record { groups = g; entries = e; stopped = false } in
+        let t : Progress = record { groups = g; entries = e; stopped = false } in
         let n = length (listIn x) in
         let w : within task t n ≡ true = inside t n (omega arith) (omega arith) in
         let one = emit-count task words store (x .constraint) (idsIn x) (listIn x) t room true refl (sym w) refl {t′ = counted t n false} mode refl in
@@ -124,7 +124,7 @@ module _ (task : Task) (words store : List ℕ) where
         ap (λ s. emitItems s xs) (sym one) ∙ rest ∙ rw (eg, ee)
 
     pub count-over : (g e : ℕ) (room : List ℕ) (xs : List Item) → g ≤ task .groups → e ≤ task .entries → (g + length xs ≤ task .groups → e + total xs ≤ task .entries → ⊥)
-        → emitItems (sinkOf (record { groups = g; entries = e; stopped = false }) room) xs .tally .stopped ≡ true
+        → emitItems (outputOf (record { groups = g; entries = e; stopped = false }) room) xs .tally .stopped ≡ true
     unfolding emitItems total
     count-over g e room [] hg he f = absurd (f (omega arith) (omega arith))
     count-over g e room (x ∷ xs) hg he f = go (decLe (g + 1) (task .groups)) (decLe (e + n) (task .entries)) (λ a b c. count-over (g + 1) (e + n) room xs a b c)
@@ -132,21 +132,21 @@ module _ (task : Task) (words store : List ℕ) where
         n : ℕ
         n = length (listIn x)
 
-        t : Tally
+        t : Progress
         t = record { groups = g; entries = e; stopped = false }
 
         Goal : Type 0
-        Goal = emitItems (emit task words store (sinkOf t room) (x .constraint) (idsIn x) (listIn x)) xs .tally .stopped ≡ true
+        Goal = emitItems (emit task words store (outputOf t room) (x .constraint) (idsIn x) (listIn x)) xs .tally .stopped ≡ true
 
         stops : within task t n ≡ false → Goal
         stops w =
             let over = emit-over task words store (x .constraint) (idsIn x) (listIn x) t room false refl (sym w) refl in
-            let u : Tally = record { groups = g; entries = e; stopped = true } in
+            let u : Progress = record { groups = g; entries = e; stopped = true } in
             ap (λ s. emitItems s xs .tally .stopped) (sym over) ∙ ap (λ s. s .tally .stopped) (items-stopped u room xs refl)
 
         go : Dec (g + 1 ≤ task .groups) → Dec (e + n ≤ task .entries)
             → (g + 1 ≤ task .groups → e + n ≤ task .entries → (g + 1 + length xs ≤ task .groups → e + n + total xs ≤ task .entries → ⊥)
-            → emitItems (sinkOf (record { groups = g + 1; entries = e + n; stopped = false }) room) xs .tally .stopped ≡ true) → Goal
+            → emitItems (outputOf (record { groups = g + 1; entries = e + n; stopped = false }) room) xs .tally .stopped ≡ true) → Goal
         go (yes a) (yes b) ih =
             let w : within task t n ≡ true = inside t n (omega arith) b in
             let one = emit-count task words store (x .constraint) (idsIn x) (listIn x) t room true refl (sym w) refl {t′ = counted t n false} mode refl in

@@ -14,12 +14,12 @@ use Rattle.laws.specs.Keeping.{keep-most}
 use Rattle.build_edges.specs.Packed.{hasLabel, labelledIn}
 use Rattle.build_neighbours.specs.Left.{labelsLeft}
 use Rattle.build_keys.specs.Pass.{aboveFor, taskFor}
-use Rattle.build_groups.specs.declared.Task.{Task}
+use Rattle.build_groups.specs.declared.Purpose.{Purpose}
 use Rattle.build_edges.proofs.Ranges.{length-range}
 
 -- the task of a constraint
-module _ (task : Task) (d : Constraint) where
-  abbrev pub with-above : ℕ → Task
+module _ (task : Purpose) (d : Constraint) where
+  abbrev pub with-above : ℕ → Purpose
   with-above x = record { mode = task .mode; above = x; groups = task .groups; entries = task .entries; table = task .table; lists = task .lists }
 
   pub above-none : task .above ≡ 0 → with-above 0 ≡ taskFor task d

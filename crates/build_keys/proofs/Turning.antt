@@ -20,7 +20,7 @@ use Rattle.laws.specs.PartMembers.{part-slice}
 use Rattle.laws.specs.Searching.{lower, before-lower, after-lower, lower-within, lower-order, range-of}
 use Rattle.build_edges.specs.Packed.{wordIn, labelledIn}
 use Rattle.build_edges.specs.Near.{wordsOf}
-use Rattle.build_neighbours.specs.Pairs.{told, Paired}
+use Rattle.build_neighbours.specs.Pairs.{partTold, Paired}
 use Rattle.build_neighbours.specs.Side.{Listed}
 
 -- ---- members
@@ -78,9 +78,9 @@ module _ {B : Type 0} (g : ℕ → List B) (b : ℕ) where
 module _ {nodes joined : List ℕ} {s : ℕ} {list words : List ℕ} (p : Paired nodes joined s list words) where
   -- a node without words is joined with none of the list
   none-of : (u : ℕ) → has u (labelledIn nodes s) ≡ true → lower ((u + 1) * 65536) words ≤ lower (u * 65536) words → keep (wordIn joined u) list ≡ []
-  unfolding wordsOf told
+  unfolding wordsOf partTold
   none-of u h k =
-      sym (p .each u h) ∙ ap (told joined list u)
+      sym (p .each u h) ∙ ap (partTold joined list u)
       (sym (range-of (u * 65536) ((u + 1) * 65536) words (p .ascends)) ∙ slice-none (lower (u * 65536) words) (lower ((u + 1) * 65536) words) words k)
 
   pub from-nothing : lower (0 * 65536) words ≡ 0
@@ -119,10 +119,10 @@ module _ {nodes joined : List ℕ} {s : ℕ} {list words : List ℕ} (p : Paired
           let a = begins in
           none-of x m (omega arith)
 
-      pub told-part : (r : ℕ) → r ≡ lower ((u + 1) * 65536) words → told joined list u (slice i r words) ≡ keep (wordIn joined u) list
+      pub told-part : (r : ℕ) → r ≡ lower ((u + 1) * 65536) words → partTold joined list u (slice i r words) ≡ keep (wordIn joined u) list
       unfolding wordsOf
       told-part r q =
-          ap (told joined list u) (ap (λ n. slice n r words) begins ∙ ap (λ n. slice (lower (u * 65536) words) n words) q ∙ range-of (u * 65536) ((u + 1) * 65536) words (p .ascends))
+          ap (partTold joined list u) (ap (λ n. slice n r words) begins ∙ ap (λ n. slice (lower (u * 65536) words) n words) q ∙ range-of (u * 65536) ((u + 1) * 65536) words (p .ascends))
           ∙ p .each u tried
 
 -- ---- in the words of the code, which has the words at the front of a run

@@ -14,9 +14,9 @@ use Rattle.rules.specs.Index.{groupBytes, entryBytes}
 use Rattle.rules.specs.Answers.{same}
 use Rattle.laws.specs.Over.{over-over, over-nil, length-over}
 use Rattle.laws.specs.Cases.{first-holds, second-holds}
-use Rattle.build_groups.specs.Emit.{groupRecord, listRecords, sinkOf, within, counted, written, agrees, emit}
-use Rattle.build_groups.specs.declared.Task.{Task}
-use Rattle.build_groups.specs.declared.Tally.{Tally}
+use Rattle.build_groups.specs.Emit.{groupRecord, listRecords, outputOf, within, counted, written, agrees, emit}
+use Rattle.build_groups.specs.declared.Purpose.{Purpose}
+use Rattle.build_groups.specs.declared.Progress.{Progress}
 use Rattle.build_groups.proofs.Records.{length-records}
 use Rattle.build_groups.proofs.Comparing.{same-append}
 use Rattle.build_groups.proofs.Emitting.{emit-write, emit-compare}
@@ -91,8 +91,8 @@ one-fails true true false d h = refl
 one-fails true false false d h = refl
 one-fails false b c d h = refl
 
-module _ (task : Task) {g : Graph} {words : List ℕ} (told : Told g words) (store : List ℕ) where
-  abbrev start : ℕ → ℕ → Tally
+module _ (task : Purpose) {g : Graph} {words : List ℕ} (told : Told g words) (store : List ℕ) where
+  abbrev start : ℕ → ℕ → Progress
   start n e = record { groups = n; entries = e; stopped = false }
 
   write-step : task .table + task .groups * 24 ≤ task .lists → (n e : ℕ) (room : List ℕ) (x : Item) (xs : List Item) → short x ≡ true → all short xs ≡ true
@@ -114,7 +114,7 @@ module _ (task : Task) {g : Graph} {words : List ℕ} (told : Told g words) (sto
       let j : task .lists + (e + c) * 8 ≡ task .lists + e * 8 + length er = omega arith in
       rw (i, j, group-bytes g e x xs, entry-bytes told x xs sh) (over-four room (task .table + n * 24) gr gb (task .lists + e * 8) er eb (omega arith) (omega arith))
 
-  long-written : (t : Tally) (room : List ℕ) (x : Item) → task .table + t .groups * 24 + 24 ≤ length room → task .lists + t .entries * 8 + length (listIn x) * 8 ≤ length room
+  long-written : (t : Progress) (room : List ℕ) (x : Item) → task .table + t .groups * 24 + 24 ≤ length room → task .lists + t .entries * 8 + length (listIn x) * 8 ≤ length room
       → length (written task words (x .constraint) (idsIn x) (listIn x) t room) ≡ length room
   unfolding written
   long-written t room x h k =
@@ -128,8 +128,8 @@ module _ (task : Task) {g : Graph} {words : List ℕ} (told : Told g words) (sto
   -- the groups from number n on, whose entries start at e, written one after another
   pub write-fits : task .mode ≡ 1 → task .table + task .groups * 24 ≤ task .lists → (n e : ℕ) (room : List ℕ) (xs : List Item) → all short xs ≡ true
       → n + length xs ≤ task .groups → e + total xs ≤ task .entries → task .lists + task .entries * 8 ≤ length room
-      → emitItems task words store (sinkOf (start n e) room) xs
-      ≡ sinkOf (start (n + length xs) (e + total xs)) (over (over room (task .table + n * 24) (groupBytes e (map (groupFor g) xs))) (task .lists + e * 8) (entryBytes (map (groupFor g) xs)))
+      → emitItems task words store (outputOf (start n e) room) xs
+      ≡ outputOf (start (n + length xs) (e + total xs)) (over (over room (task .table + n * 24) (groupBytes e (map (groupFor g) xs))) (task .lists + e * 8) (entryBytes (map (groupFor g) xs)))
   unfolding emitItems total all groupBytes entryBytes flatMap
   write-fits mode apart n e room [] sh hg he fits = rw (add-zero, add-zero, over-nil, over-nil)
   write-fits mode apart n e room (x ∷ xs) sh hg he fits =
@@ -146,7 +146,7 @@ module _ (task : Task) {g : Graph} {words : List ℕ} (told : Told g words) (sto
       let step = write-step apart n e room x xs sx sxs hg he fits in
       let eg : n + 1 + length xs ≡ n + suc (length xs) = omega arith in
       let ee : e + c + total xs ≡ e + (c + total xs) = omega arith in
-      ap (λ s. emitItems task words store s xs) (sym one) ∙ ih ∙ rw (eg, ee) (ap (sinkOf (start (n + suc (length xs)) (e + (c + total xs)))) step)
+      ap (λ s. emitItems task words store s xs) (sym one) ∙ ih ∙ rw (eg, ee) (ap (outputOf (start (n + suc (length xs)) (e + (c + total xs)))) step)
 
   -- the first group and the others, in the store
   one-group : ℕ → ℕ → Item → Bool
@@ -196,7 +196,7 @@ module _ (task : Task) {g : Graph} {words : List ℕ} (told : Told g words) (sto
   -- compared one after another with the bytes of the store
   pub compare-all : (task .mode ≡ 0 → ⊥) → (task .mode ≡ 1 → ⊥) → (n e : ℕ) (room : List ℕ) (xs : List Item) → all short xs ≡ true
       → n + length xs ≤ task .groups → e + total xs ≤ task .entries → task .table + task .groups * 24 ≤ length store → task .lists + task .entries * 8 ≤ length store
-      → emitItems task words store (sinkOf (start n e) room) xs .tally .stopped
+      → emitItems task words store (outputOf (start n e) room) xs .tally .stopped
       ≡ not (same (part store (task .table + n * 24) (task .table + n * 24 + length xs * 24)) (groupBytes e (map (groupFor g) xs))
       && same (part store (task .lists + e * 8) (task .lists + e * 8 + total xs * 8)) (entryBytes (map (groupFor g) xs)))
   unfolding emitItems total all groupBytes entryBytes flatMap same more-groups more-lists
@@ -222,7 +222,7 @@ module _ (task : Task) {g : Graph} {words : List ℕ} (told : Told g words) (sto
           && same (part store (task .lists + (e + c) * 8) (task .lists + (e + c) * 8 + total xs * 8)) (entryBytes (map (groupFor g) xs))
 
       first : (a : Bool) → a ≡ agrees task words (x .constraint) (idsIn x) (listIn x) (start n e) store
-          → sinkOf (counted (start n e) c (not a)) room ≡ emit task words store (sinkOf (start n e) room) (x .constraint) (idsIn x) (listIn x)
+          → outputOf (counted (start n e) c (not a)) room ≡ emit task words store (outputOf (start n e) room) (x .constraint) (idsIn x) (listIn x)
       first a q =
           let w : within task (start n e) c ≡ true = inside task words store (start n e) c (omega arith) (omega arith) in
           emit-compare task words store (x .constraint) (idsIn x) (listIn x) (start n e) room true refl (sym w) refl {t′ = counted (start n e) c (not a)} m₀ m₁ q refl
@@ -233,8 +233,8 @@ module _ (task : Task) {g : Graph} {words : List ℕ} (told : Told g words) (sto
           ∙ ap (λ b. (one-group n e x && more-groups n e x xs) && b) (split-lists e x xs (first-holds (short x) (all short xs) sh) he fl)
 
       go : (a : Bool) → agrees task words (x .constraint) (idsIn x) (listIn x) (start n e) store ≡ a
-          → emitItems task words store (sinkOf (start (n + 1) (e + c)) room) xs .tally .stopped ≡ not Rest
-          → emitItems task words store (emit task words store (sinkOf (start n e) room) (x .constraint) (idsIn x) (listIn x)) xs .tally .stopped ≡ not Whole
+          → emitItems task words store (outputOf (start (n + 1) (e + c)) room) xs .tally .stopped ≡ not Rest
+          → emitItems task words store (emit task words store (outputOf (start n e) room) (x .constraint) (idsIn x) (listIn x)) xs .tally .stopped ≡ not Whole
       go true q ih =
           ap (λ s. emitItems task words store s xs .tally .stopped) (sym (first true (sym q))) ∙ ih
           ∙ ap not (sym (parts ∙ both-hold (one-group n e x) (more-groups n e x xs) (one-list e x) (more-lists e x xs) (sym (agree-parts n e x) ∙ q)))

@@ -14,39 +14,39 @@ use Rattle.build_edges.specs.Sound.{joinedSet}
 use Rattle.build_neighbours.specs.Side.{Arranged}
 use Rattle.build_neighbours.specs.Left.{labelsLeft}
 use Rattle.build_groups.specs.Keyed.{Keyed, keyedFrom}
-use Rattle.build_groups.specs.Emit.{Sink, sinkOf, emitAll}
-use Rattle.build_groups.specs.declared.Task.{Task}
-use Rattle.build_groups.specs.declared.Tally.{Tally}
+use Rattle.build_groups.specs.Emit.{Output, outputOf, emitAll}
+use Rattle.build_groups.specs.declared.Purpose.{Purpose}
+use Rattle.build_groups.specs.declared.Progress.{Progress}
 
 -- lists longer than this: than N where the task asks for it, else all that are not empty
-unfoldable pub aboveFor : Task → Constraint → ℕ
+unfoldable pub aboveFor : Purpose → Constraint → ℕ
 aboveFor task d = cond (eqb (task .above) 0) 0 (d .most)
 
-abbrev pub taskFor : Task → Constraint → Task
+abbrev pub taskFor : Purpose → Constraint → Purpose
 taskFor task d = record { mode = task .mode; above = aboveFor task d; groups = task .groups; entries = task .entries; table = task .table; lists = task .lists }
 
 -- the keys of a constraint, with their lists
-unfoldable pub keyedBy : Task → List ℕ → List ℕ → Constraint → List Keyed
+unfoldable pub keyedBy : Purpose → List ℕ → List ℕ → Constraint → List Keyed
 keyedBy task nodes joined d =
     keyedFrom (wordIn joined) (labelledIn nodes) (aboveFor task d) (labelsLeft (d .first) (d .second) (d .third)) [] (labelledIn nodes (d .label))
 
 -- they are dealt with
-unfoldable pub visited : Task → List ℕ → List ℕ → List ℕ → List ℕ → List ℕ → ℕ → Sink → Sink
+unfoldable pub visited : Purpose → List ℕ → List ℕ → List ℕ → List ℕ → List ℕ → ℕ → Output → Output
 visited task nodes joined words constraints store c s =
     emitAll (taskFor task (constraintAt constraints c)) words store c s (keyedBy task nodes joined (constraintAt constraints c))
 
-unfoldable pub visitedAll : Task → List ℕ → List ℕ → List ℕ → List ℕ → List ℕ → Sink → Sink
+unfoldable pub visitedAll : Purpose → List ℕ → List ℕ → List ℕ → List ℕ → List ℕ → Output → Output
 visitedAll task nodes joined words constraints store s =
     foldFrom (visited task nodes joined words constraints store) 0 (constraintsIn constraints) s
 
 -- nothing counted yet
-abbrev pub nothing : Tally
+abbrev pub nothing : Progress
 nothing = record { groups = 0; entries = 0; stopped = false }
 
 -- all groups of a store's graph are dealt with
-unfoldable pub passed : Task → List ℕ → List ℕ → List ℕ → Sink
+unfoldable pub passed : Purpose → List ℕ → List ℕ → List ℕ → Output
 passed task s store room =
-    visitedAll task (nodePart s) (joinedSet (edgePart s)) (forwardWords (edgePart s)) (constraintPart s) store (sinkOf nothing room)
+    visitedAll task (nodePart s) (joinedSet (edgePart s)) (forwardWords (edgePart s)) (constraintPart s) store (outputOf nothing room)
 
 -- a store or draft without refusal 1, 2 or 3
 pub record Right (s : List ℕ) : Type 0 where

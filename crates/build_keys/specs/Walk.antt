@@ -14,9 +14,9 @@ use Rattle.build_neighbours.specs.Side.{Held, Listed}
 use Rattle.build_neighbours.specs.declared.Labels.{Labels}
 use Rattle.build_neighbours.specs.Left.{labelsIn}
 use Rattle.build_groups.specs.Keyed.{Keyed, keyedFrom}
-use Rattle.build_groups.specs.Emit.{idsOf, Placed, sinkOf, emitAll}
-use Rattle.build_groups.specs.declared.Task.{Task}
-use Rattle.build_groups.specs.declared.Tally.{Tally}
+use Rattle.build_groups.specs.Emit.{idsOf, Placed, outputOf, emitAll}
+use Rattle.build_groups.specs.declared.Purpose.{Purpose}
+use Rattle.build_groups.specs.declared.Progress.{Progress}
 
 -- the key with u as its id number at
 unfoldable pub withId : Key → ℕ → ℕ → Key
@@ -34,11 +34,11 @@ abbrev pub chosen : Key → ℕ → List ℕ
 chosen key at = take at (idsOf key)
 
 -- the keys with their lists that the walk goes through
-abbrev pub keyedOf : Task → List ℕ → List ℕ → Labels → Key → ℕ → List ℕ → List Keyed
+abbrev pub keyedOf : Purpose → List ℕ → List ℕ → Labels → Key → ℕ → List ℕ → List Keyed
 keyedOf task nodes joined left key at list = keyedFrom (wordIn joined) (labelledIn nodes) (task .above) (labelsIn left) (chosen key at) list
 
 -- the rooms for lists (one, two) and for what is tried (a, b) are long enough, and the ids that are not chosen are not used
-pub record Fit (task : Task) (nodes joined starts edges begins : List ℕ) (l : ℕ) (left : Labels) (key : Key) (at : ℕ) (list one two a b store room : List ℕ) : Type 0 where
+pub record WalkFit (task : Purpose) (nodes joined starts edges begins : List ℕ) (l : ℕ) (left : Labels) (key : Key) (at : ℕ) (list one two a b store room : List ℕ) : Type 0 where
   pub placed : Placed task (length store) (length room)
   pub held : Held nodes joined starts
   pub edged : Edged edges begins
@@ -51,5 +51,5 @@ pub record Fit (task : Task) (nodes joined starts edges begins : List ℕ) (l : 
   pub third : left .third ≡ 0
 
 -- those keys with their lists are dealt with, one after another
-pub record Done (task : Task) (nodes joined words : List ℕ) (left : Labels) (key : Key) (at : ℕ) (list store : List ℕ) (t : Tally) (room : List ℕ) (t′ : Tally) (room′ : List ℕ) : Type 0 where
-  pub all : sinkOf t′ room′ ≡ emitAll task words store (key .constraint) (sinkOf t room) (keyedOf task nodes joined left key at list)
+pub record WalkDone (task : Purpose) (nodes joined words : List ℕ) (left : Labels) (key : Key) (at : ℕ) (list store : List ℕ) (t : Progress) (room : List ℕ) (t′ : Progress) (room′ : List ℕ) : Type 0 where
+  pub all : outputOf t′ room′ ≡ emitAll task words store (key .constraint) (outputOf t room) (keyedOf task nodes joined left key at list)

@@ -1,13 +1,13 @@
 // The walk over the keys of a constraint, one label of S after another.
-use build_groups::Tally;
-use build_groups::Task;
+use build_groups::Progress;
+use build_groups::Purpose;
 use build_neighbours::Labels;
 use rules::Key;
 ghost use mathlib.Core.Path.{_≡_};
 ghost use Prim.Native.Nat.{_+_, _<_};
 ghost use Rattle.rules.specs.Lists.{setOf};
 ghost use Rattle.build_edges.specs.Packed.{forwardWords};
-ghost use Rattle.build_keys.specs.Walk.{withId, restOf, Fit, Done};
+ghost use Rattle.build_keys.specs.Walk.{withId, restOf, WalkFit, WalkDone};
 
 // The key with u as its id number at.
 pub fn with_id(key: Key, at: u32, u: u32) -> Key
@@ -50,7 +50,7 @@ pub fn rest_of(left: Labels) -> Labels
 
 // Goes through the keys that begin with the first `at` ids of `key` and go on with nodes of the labels left; `list` is the list of these ids, labelled l.
 pub fn walk(
-    task: Task,
+    task: Purpose,
     nodes: &[u8],
     joined: &[u32],
     starts: &[u32],
@@ -67,10 +67,10 @@ pub fn walk(
     second: &mut [u32],
     store: &[u8],
     room: &mut [u8],
-    tally: Tally,
-) -> Tally
-    requires { ⌜ Fit task (now nodes) (now joined) (now starts) (now edges) (now begins) l left key at (now list) (now one) (now two) (now first) (now second) (now store) (now room) ⌝ }
-    ensures { λ r. ⌜ Done task (now (nodes .entry)) (setOf (now (joined .entry))) (forwardWords (now (edges .entry))) left key at (now (list .entry)) (now (store .entry)) tally (now (room .entry)) r (now (room .exit)) ⌝ }
+    tally: Progress,
+) -> Progress
+    requires { ⌜ WalkFit task (now nodes) (now joined) (now starts) (now edges) (now begins) l left key at (now list) (now one) (now two) (now first) (now second) (now store) (now room) ⌝ }
+    ensures { λ r. ⌜ WalkDone task (now (nodes .entry)) (setOf (now (joined .entry))) (forwardWords (now (edges .entry))) left key at (now (list .entry)) (now (store .entry)) tally (now (room .entry)) r (now (room .exit)) ⌝ }
 {
     if list.len() <= task.above as usize {
         return tally;

@@ -23,7 +23,7 @@ use Rattle.laws.specs.Searching.{standsIn, stands-has, between}
 use Rattle.build_edges.specs.Packed.{wordIn, hasLabel, labelledIn}
 use Rattle.build_edges.specs.Near.{wordsOf, lows, isLabelled}
 use Rattle.build_neighbours.specs.Side.{sideIn, sideOf, Held, Listed}
-use Rattle.build_neighbours.specs.Pairs.{turned, marked, told, Paired}
+use Rattle.build_neighbours.specs.Pairs.{turned, marked, partTold, Paired}
 use Rattle.build_edges.proofs.Nearby.{either-side, has-range, labelled-strict}
 use Rattle.build_neighbours.proofs.Sides.{side-words, side-lows, side-strict}
 
@@ -214,23 +214,23 @@ listed-has {nodes} {list} {l} r v h =
     labelled-has nodes l v ∙ rw (second-holds (ltb v (nodesIn nodes)) (hasLabel nodes l v) both, first-holds (ltb v (nodesIn nodes)) (hasLabel nodes l v) both)
 
 -- ---- what words tell
-told-lows : (joined list : List ℕ) (u : ℕ) (ws : List ℕ) → ((w : ℕ) → has w ws ≡ true → w % 65536 < 65535) → told joined list u ws ≡ lows ws
-unfolding told
+told-lows : (joined list : List ℕ) (u : ℕ) (ws : List ℕ) → ((w : ℕ) → has w ws ≡ true → w % 65536 < 65535) → partTold joined list u ws ≡ lows ws
+unfolding partTold
 told-lows joined list u [] h = refl
 told-lows joined list u (w ∷ ws) h = let k = h w (first-has w ws) in rw (ne-eqb (w % 65536) 65535 (λ e. omega arith))
 
-pub told-none : (joined list : List ℕ) (u : ℕ) (ws : List ℕ) → length ws ≡ 0 → [] ≡ told joined list u ws
-unfolding told
+pub told-none : (joined list : List ℕ) (u : ℕ) (ws : List ℕ) → length ws ≡ 0 → [] ≡ partTold joined list u ws
+unfolding partTold
 told-none joined list u [] h = refl
 told-none joined list u (w ∷ ws) h = absurd (omega arith)
 
-pub told-asked : (joined list : List ℕ) (u : ℕ) (ws : List ℕ) → (length ws ≡ 0 → ⊥) → getD ws 0 0 % 65536 ≡ 65535 → told joined list u ws ≡ keep (wordIn joined u) list
-unfolding told
+pub told-asked : (joined list : List ℕ) (u : ℕ) (ws : List ℕ) → (length ws ≡ 0 → ⊥) → getD ws 0 0 % 65536 ≡ 65535 → partTold joined list u ws ≡ keep (wordIn joined u) list
+unfolding partTold
 told-asked joined list u [] h e = absurd (h refl)
 told-asked joined list u (w ∷ ws) h e = rw (eq-eqb (w % 65536) 65535 e)
 
-pub told-listed : (joined list : List ℕ) (u : ℕ) (ws : List ℕ) → (getD ws 0 0 % 65536 ≡ 65535 → ⊥) → told joined list u ws ≡ lows ws
-unfolding told
+pub told-listed : (joined list : List ℕ) (u : ℕ) (ws : List ℕ) → (getD ws 0 0 % 65536 ≡ 65535 → ⊥) → partTold joined list u ws ≡ lows ws
+unfolding partTold
 told-listed joined list u [] h = refl
 told-listed joined list u (w ∷ ws) h = rw (ne-eqb (w % 65536) 65535 h)
 
@@ -300,7 +300,7 @@ module _ {nodes joined starts : List ℕ} (held : Held nodes joined starts) {l :
   unfolding wordsOf
   words-in u w h = second-holds (between (u * 65536) ((u + 1) * 65536) w) (has w pairs) (sym (has-keep (between (u * 65536) ((u + 1) * 65536)) w pairs) ∙ h)
 
-  pair-each : (u : ℕ) → has u (labelledIn nodes s) ≡ true → told (setOf joined) list u (wordsOf pairs u) ≡ keep (wordIn (setOf joined) u) list
+  pair-each : (u : ℕ) → has u (labelledIn nodes s) ≡ true → partTold (setOf joined) list u (wordsOf pairs u) ≡ keep (wordIn (setOf joined) u) list
   pair-each u h =
       let a = labelled-below nodes s u h in
       let f = held .few in
@@ -351,7 +351,7 @@ paired-marked : (nodes joined : List ℕ) (s : ℕ) (list : List ℕ) → Paired
 paired-marked nodes joined s list = record {
   ascends = marked-strict (labelledIn nodes s) (labelled-strict nodes s);
   from = λ w h. second-holds (eqb (w % 65536) 65535) (has (w / 65536) (labelledIn nodes s)) (sym (marked-has w (labelledIn nodes s)) ∙ h);
-  each = λ u h. ap (told joined list u) (marked-words (labelledIn nodes s) u (labelled-strict nodes s) h)
+  each = λ u h. ap (partTold joined list u) (marked-words (labelledIn nodes s) u (labelled-strict nodes s) h)
       ∙ told-asked joined list u (marked u ∷ []) (λ e. omega arith) (marked-low u);
 }
 

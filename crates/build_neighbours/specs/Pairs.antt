@@ -17,12 +17,12 @@ unfoldable pub marked : ℕ → ℕ
 marked u = u * 65536 + 65535
 
 -- the part of a list that is joined with u, as its words tell it: by their low halves, or by asking
-unfoldable pub told : List ℕ → List ℕ → ℕ → List ℕ → List ℕ
-told joined list u [] = []
-told joined list u (w ∷ words) = cond (eqb (w % 65536) 65535) (keep (wordIn joined u) list) (lows (w ∷ words))
+unfoldable pub partTold : List ℕ → List ℕ → ℕ → List ℕ → List ℕ
+partTold joined list u [] = []
+partTold joined list u (w ∷ words) = cond (eqb (w % 65536) 65535) (keep (wordIn joined u) list) (lows (w ∷ words))
 
 -- ascending words, with nodes labelled l in their high halves, that tell for each such node its part of the list
 pub record Paired (nodes joined : List ℕ) (l : ℕ) (list words : List ℕ) : Type 0 where
   pub ascends : Strict words
   pub from : (w : ℕ) → has w words ≡ true → has (w / 65536) (labelledIn nodes l) ≡ true
-  pub each : (u : ℕ) → has u (labelledIn nodes l) ≡ true → told joined list u (wordsOf words u) ≡ keep (wordIn joined u) list
+  pub each : (u : ℕ) → has u (labelledIn nodes l) ≡ true → partTold joined list u (wordsOf words u) ≡ keep (wordIn joined u) list

@@ -10,7 +10,7 @@ ghost use Rattle.laws.specs.Searching.{lower};
 ghost use Rattle.build_edges.specs.Packed.{wordIn, labelledIn};
 ghost use Rattle.build_edges.specs.Near.{lows};
 ghost use Rattle.build_neighbours.specs.Side.{sideIn, Held, Listed};
-ghost use Rattle.build_neighbours.specs.Pairs.{turned, marked, told, Paired};
+ghost use Rattle.build_neighbours.specs.Pairs.{turned, marked, partTold, Paired};
 
 // Adds words, the other way round, to the first k of out, and returns how many these are then.
 fn add_turned(words: &[u32], out: &mut [u32], k: usize) -> usize
@@ -160,7 +160,7 @@ pub fn part_of(
     out: &mut [u32],
 ) -> usize
     requires { ⌜ ((u < 65535) × ((length (now words) ≤ 65536) × (65536 ≤ length (now out)))) × (Held (now nodes) (now joined) (now starts) × ((length (now list) ≤ 65536) × Listed (now nodes) l (now list))) ⌝ }
-    ensures { λ r. ⌜ (r ≤ 65536) × (take r (now (out .exit)) ≡ told (setOf (now (joined .entry))) (now (list .entry)) u (now (words .entry))) ⌝ }
+    ensures { λ r. ⌜ (r ≤ 65536) × (take r (now (out .exit)) ≡ partTold (setOf (now (joined .entry))) (now (list .entry)) u (now (words .entry))) ⌝ }
 {
     if words.len() == 0 {
         return 0;

@@ -36,5 +36,5 @@ unfoldable pub planOf : List ℕ → List ℕ → PlanRows
 planOf constraints b = cond (constraintsRight constraints) (cond (patternRight b) (coveredPlan constraints b) (refusedPlan 6)) (refusedPlan 3)
 
 -- an answer of planning with its room, as an outcome
-abbrev pub told : Planned → List ℕ → Outcome
-told r room = record { number = r .number; results = r .bound ∷ []; room = room; work = [] }
+abbrev pub planTold : Planned → List ℕ → Outcome
+planTold r room = record { number = r .number; results = r .bound ∷ []; room = room; work = [] }

@@ -7,7 +7,7 @@ ghost use Rattle.rules.specs.Store.{constraintsIn};
 ghost use Rattle.rules.specs.Pattern.{sizeOf, edgesOf};
 ghost use Rattle.rules.specs.Answers.{planOutcome};
 ghost use Rattle.plan_ways.specs.Given.{Given};
-ghost use Rattle.plan.specs.Plans.{refusedPlan, boundedPlan, coveredPlan, planOf, told};
+ghost use Rattle.plan.specs.Plans.{refusedPlan, boundedPlan, coveredPlan, planOf, planTold};
 
 // A plan, or a refusal: the number, the bound T, how many words the rows have, and the words.
 pub struct PlanRows {
@@ -96,7 +96,7 @@ pub fn plan_of(constraints: &[u8], b: &[u8]) -> PlanRows
 
 // Planning, for any bytes: the number, and T; on 0 the rows are written.
 pub fn plan(s: &[u8], b: &[u8], room: &mut [u32]) -> Planned
-    ensures { λ r. ⌜ told r (now (room .exit)) ≡ planOutcome (now (s .entry)) (now (b .entry)) (now (room .entry)) ⌝ }
+    ensures { λ r. ⌜ planTold r (now (room .exit)) ≡ planOutcome (now (s .entry)) (now (b .entry)) (now (room .entry)) ⌝ }
 {
     if !store::header_right(s) {
         return Planned {

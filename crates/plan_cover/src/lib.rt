@@ -5,7 +5,7 @@ ghost use lib.ListN.{length};
 ghost use Rattle.rules.specs.Lists.{allFrom};
 ghost use Rattle.rules.specs.Pattern.{sizeOf, edgesOf};
 ghost use Rattle.rules.specs.Plan.{covered, edgeCovered, allCovered};
-ghost use Rattle.plan_ways.specs.Ways.{Ready};
+ghost use Rattle.plan_ways.specs.Ways.{WaysReady};
 ghost use Rattle.plan_ways.specs.Given.{Given};
 ghost use Rattle.plan_cover.specs.Ones.{ones};
 
@@ -57,7 +57,7 @@ fn edge_covered(
     figures: [u32; 8],
     j: usize,
 ) -> bool
-    requires { ⌜ (Ready (now constraints) (now b) t figures) × (j < edgesOf (now b)) ⌝ }
+    requires { ⌜ (WaysReady (now constraints) (now b) t figures) × (j < edgesOf (now b)) ⌝ }
     ensures { λ r. ⌜ r ≡ edgeCovered (now (constraints .entry)) (now (b .entry)) figures j ⌝ }
 {
     let best = plan_ways::best_for_edge(constraints, b, t, &figures, j);
@@ -66,7 +66,7 @@ fn edge_covered(
 
 // Whether each edge is covered.
 fn edges_covered(constraints: &[u8], b: &[u8], t: [[bool; 8]; 8], figures: [u32; 8]) -> bool
-    requires { ⌜ Ready (now constraints) (now b) t figures ⌝ }
+    requires { ⌜ WaysReady (now constraints) (now b) t figures ⌝ }
     ensures { λ r. ⌜ r ≡ allFrom (edgeCovered (now (constraints .entry)) (now (b .entry)) figures) 0 (edgesOf (now (b .entry))) ⌝ }
 {
     let q = pattern::edges_of(b);

@@ -14,7 +14,7 @@ use Rattle.rules.specs.Plan.{smallest, edgeWays, listed, edgeRows, figuresOf, r
 use Rattle.rules.specs.declared.Row.{Row}
 use Rattle.plan_rows.specs.declared.Stand.{Stand}
 use Rattle.plan_rows.specs.Rows.{standOf, Standing, EdgesDone}
-use Rattle.plan_rows.proofs.Going.{Going, going-start, going-next, going-above, going-done}
+use Rattle.plan_rows.proofs.Going.{RowsGoing, going-start, going-next, going-above, going-done}
 
 -- the rows of the edges from j on
 abbrev pub edgesFrom : List ℕ → List ℕ → List ℕ → ℕ → List Row
@@ -24,7 +24,7 @@ edgesFrom constraints b figures j = flatMap (λ j. listed (smallest (edgeWays co
 pub record EdgesGoing (constraints b figures rows₀ rows : List ℕ) (count₀ sum₀ count sum j : ℕ) : Type 0 where
   pub within : j ≤ edgesOf b
   pub few : count ≤ count₀ + j
-  pub going : Going (edgesFrom constraints b figures j) (edgeRows constraints b) count₀ sum₀ rows₀ rows count sum
+  pub going : RowsGoing (edgesFrom constraints b figures j) (edgeRows constraints b) count₀ sum₀ rows₀ rows count sum
 
 pub edges-start : (constraints b figures rows₀ : List ℕ) (count₀ sum₀ : ℕ) → figures ≡ figuresOf constraints b → EdgesGoing constraints b figures rows₀ rows₀ count₀ sum₀ count₀ sum₀ 0
 unfolding edgeRows

@@ -35,7 +35,7 @@ pub way-missing : (w : Best) (o : Option Row) → wayIn w ≡ o → w .found ≡
 way-missing w o e h = sym e ∙ rw h
 
 -- with the rows that are left, count, sum and words come to the whole; no row so far is above 65,536
-pub record Going (rest whole : List Row) (count₀ sum₀ : ℕ) (rows₀ rows : List ℕ) (count sum : ℕ) : Type 0 where
+pub record RowsGoing (rest whole : List Row) (count₀ sum₀ : ℕ) (rows₀ rows : List ℕ) (count sum : ℕ) : Type 0 where
   pub counted : count + length rest ≡ count₀ + length whole
   pub summed : sum + total rest ≡ sum₀ + total whole
   pub written : over rows (count * 8) (flatMap rowWords rest) ≡ over rows₀ (count₀ * 8) (flatMap rowWords whole)
@@ -43,13 +43,13 @@ pub record Going (rest whole : List Row) (count₀ sum₀ : ℕ) (rows₀ rows :
   pub grown : sum₀ ≤ sum
   pub most : sum + count₀ * 65536 ≤ sum₀ + count * 65536
 
-pub going-start : (whole : List Row) (count₀ sum₀ : ℕ) (rows₀ : List ℕ) → Going whole whole count₀ sum₀ rows₀ rows₀ count₀ sum₀
+pub going-start : (whole : List Row) (count₀ sum₀ : ℕ) (rows₀ : List ℕ) → RowsGoing whole whole count₀ sum₀ rows₀ rows₀ count₀ sum₀
 going-start whole count₀ sum₀ rows₀ = record { counted = refl; summed = refl; written = refl; kept = refl; grown = omega arith; most = omega arith }
 
-module _ {rest whole : List Row} {count₀ sum₀ : ℕ} {rows₀ rows : List ℕ} {count sum : ℕ} {r : Row} (inv : Going (r ∷ rest) whole count₀ sum₀ rows₀ rows count sum) where
+module _ {rest whole : List Row} {count₀ sum₀ : ℕ} {rows₀ rows : List ℕ} {count sum : ℕ} {r : Row} (inv : RowsGoing (r ∷ rest) whole count₀ sum₀ rows₀ rows count sum) where
   -- a row is written
   pub going-next : (next : List ℕ) → r .figure ≤ 65536 → count * 8 + 8 ≤ length rows → next ≡ over rows (count * 8) (rowWords r)
-      → Going rest whole count₀ sum₀ rows₀ next (count + 1) (sum + r .figure)
+      → RowsGoing rest whole count₀ sum₀ rows₀ next (count + 1) (sum + r .figure)
   unfolding sum rowWords flatMap
   going-next next h fits e =
       let m : (count + 1) * 8 ≡ count * 8 + 8 = omega arith in
@@ -68,6 +68,6 @@ module _ {rest whole : List Row} {count₀ sum₀ : ℕ} {rows₀ rows : List �
   going-above h = omega (arith, inv .summed)
 
 -- no row is left
-pub going-done : {whole : List Row} {count₀ sum₀ : ℕ} {rows₀ rows : List ℕ} {s : Stand} → Going [] whole count₀ sum₀ rows₀ rows (s .count) (s .sum) → Written whole count₀ sum₀ rows₀ rows s
+pub going-done : {whole : List Row} {count₀ sum₀ : ℕ} {rows₀ rows : List ℕ} {s : Stand} → RowsGoing [] whole count₀ sum₀ rows₀ rows (s .count) (s .sum) → Written whole count₀ sum₀ rows₀ rows s
 unfolding sum flatMap
 going-done {s = s} inv = record { counted = omega (arith, inv .counted); summed = omega (arith, inv .summed); written = sym (over-nil _ (s .count * 8)) ∙ inv .written }

@@ -17,7 +17,7 @@ use Rattle.laws.specs.Covering.{rows-next, rows-stop, rows-zero}
 use Rattle.plan_ways.specs.Ways.{Small}
 use Rattle.plan_rows.specs.declared.Stand.{Stand}
 use Rattle.plan_rows.specs.Rows.{standOf, NodesDone}
-use Rattle.plan_rows.proofs.Going.{Going, going-start, going-next, going-above, going-done}
+use Rattle.plan_rows.proofs.Going.{RowsGoing, going-start, going-next, going-above, going-done}
 
 -- a figure that is not above 65,536 leaves small figures small
 pub small-set : (figures : List ℕ) (n v : ℕ) → Small figures → v ≤ 65536 → Small (set figures n v)
@@ -40,7 +40,7 @@ small-none = record { most = λ u. go u (decLe 8 u) }
 pub record NodesGoing (constraints b rows₀ rows figures : List ℕ) (count sum : ℕ) : Type 0 where
   pub within : count ≤ sizeOf b
   pub small : Small figures
-  pub going : Going (nodeRowsFrom constraints b (sizeOf b - count) figures) (nodeRows constraints b) 0 0 rows₀ rows count sum
+  pub going : RowsGoing (nodeRowsFrom constraints b (sizeOf b - count) figures) (nodeRows constraints b) 0 0 rows₀ rows count sum
   pub after : figuresAfter figures (nodeRowsFrom constraints b (sizeOf b - count) figures) ≡ figuresOf constraints b
 
 pub nodes-start : (constraints b rows₀ : List ℕ) → NodesGoing constraints b rows₀ rows₀ noFigures 0 0

@@ -4,7 +4,7 @@ use mathlib.Core.Path.{_≡_}
 use mathlib.Core.Bool.{Bool, true}
 use mathlib.Core.List.{List}
 use Rattle.rules.specs.Store.{constraintsIn, constraintAt, constraintAlone, constraintsRight}
-use Rattle.plan_ways.specs.Ways.{Known, Small, Ready}
+use Rattle.plan_ways.specs.Ways.{Known, Small, WaysReady}
 
 -- right constraints, not too many, and what is known of the pattern and its table
 pub record Given (constraints b : List ℕ) (t : List (List Bool)) : Type 0 where
@@ -14,5 +14,5 @@ pub record Given (constraints b : List ℕ) (t : List (List Bool)) : Type 0 wher
   pub alone : (c : ℕ) → c < constraintsIn constraints → constraintAlone (constraintAt constraints c) ≡ true
 
 -- with small figures ways can be sought
-pub given-ready : {constraints b : List ℕ} {t : List (List Bool)} {figures : List ℕ} → Given constraints b t → Small figures → Ready constraints b t figures
+pub given-ready : {constraints b : List ℕ} {t : List (List Bool)} {figures : List ℕ} → Given constraints b t → Small figures → WaysReady constraints b t figures
 given-ready g s = record { known = g .known; small = s; count = g .count; alone = g .alone }

@@ -66,7 +66,7 @@ abbrev pub suited : List ℕ → List ℕ → ℕ → ℕ → ℕ → Bool
 suited b figures u label w = covered figures w && joined b u w && eqb (patternLabel b w) label
 
 -- what is known where ways are sought: pattern and table, small figures, and each constraint right by itself
-pub record Ready (constraints b : List ℕ) (t : List (List Bool)) (figures : List ℕ) : Type 0 where
+pub record WaysReady (constraints b : List ℕ) (t : List (List Bool)) (figures : List ℕ) : Type 0 where
   pub known : Known b t
   pub small : Small figures
   pub count : constraintsIn constraints ≤ 65535

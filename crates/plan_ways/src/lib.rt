@@ -12,7 +12,7 @@ ghost use Rattle.rules.specs.Plan.{figureOf, covered, coveredWith, smallest, no
 ghost use Rattle.laws.specs.Smallest.{better};
 ghost use Rattle.laws.specs.Choices.{nodeOnly, least};
 ghost use Rattle.laws.specs.Chosen.{narrow};
-ghost use Rattle.plan_ways.specs.Ways.{wayIn, slotOf, wayBy, Known, Small, Ready, suited, nodeBy, endBy, nodeSlots, endSlots};
+ghost use Rattle.plan_ways.specs.Ways.{wayIn, slotOf, wayBy, Known, Small, WaysReady, suited, nodeBy, endBy, nodeSlots, endSlots};
 
 // The best way so far, if there is one.
 pub struct Best {
@@ -216,7 +216,7 @@ fn node_way(
     u: usize,
     c: usize,
 ) -> Best
-    requires { ⌜ (Ready (now constraints) (now b) t (now figures)) × ((u < sizeOf (now b)) × (c < constraintsIn (now constraints))) ⌝ }
+    requires { ⌜ (WaysReady (now constraints) (now b) t (now figures)) × ((u < sizeOf (now b)) × (c < constraintsIn (now constraints))) ⌝ }
     ensures { λ r. ⌜ wayIn r ≡ smallest (nodeBy (now (constraints .entry)) (now (b .entry)) (now (figures .entry)) u c) ⌝ }
 {
     let k = store::constraint_at(constraints, c);
@@ -245,7 +245,7 @@ fn best_for_node(
     figures: &[u32; 8],
     u: usize,
 ) -> Best
-    requires { ⌜ (Ready (now constraints) (now b) t (now figures)) × (u < sizeOf (now b)) ⌝ }
+    requires { ⌜ (WaysReady (now constraints) (now b) t (now figures)) × (u < sizeOf (now b)) ⌝ }
     ensures { λ r. ⌜ wayIn r ≡ smallest (nodeWays (now (constraints .entry)) (now (b .entry)) (now (figures .entry)) u) ⌝ }
 {
     let n = constraints.len() / 12;
@@ -264,7 +264,7 @@ fn best_if_uncovered(
     figures: &[u32; 8],
     u: usize,
 ) -> Best
-    requires { ⌜ (Ready (now constraints) (now b) t (now figures)) × (u < sizeOf (now b)) ⌝ }
+    requires { ⌜ (WaysReady (now constraints) (now b) t (now figures)) × (u < sizeOf (now b)) ⌝ }
     ensures { λ r. ⌜ wayIn r ≡ smallest (cond (not (covered (now (figures .entry)) u)) (nodeWays (now (constraints .entry)) (now (b .entry)) (now (figures .entry)) u) []) ⌝ }
 {
     if figures[u] != 0 {
@@ -275,7 +275,7 @@ fn best_if_uncovered(
 
 // The best way of all uncovered nodes.
 pub fn best_way(constraints: &[u8], b: &[u8], t: [[bool; 8]; 8], figures: &[u32; 8]) -> Best
-    requires { ⌜ (Ready (now constraints) (now b) t (now figures)) ⌝ }
+    requires { ⌜ (WaysReady (now constraints) (now b) t (now figures)) ⌝ }
     ensures { λ r. ⌜ wayIn r ≡ smallest (allWays (now (constraints .entry)) (now (b .entry)) (now (figures .entry))) ⌝ }
 {
     let p = pattern::size_of(b);
@@ -369,7 +369,7 @@ fn end_way(
     f: usize,
     o: usize,
 ) -> Best
-    requires { ⌜ (Ready (now constraints) (now b) t (now figures)) × ((f < sizeOf (now b)) × ((o < sizeOf (now b)) × ((c < constraintsIn (now constraints)) × (j < edgesOf (now b))))) ⌝ }
+    requires { ⌜ (WaysReady (now constraints) (now b) t (now figures)) × ((f < sizeOf (now b)) × ((o < sizeOf (now b)) × ((c < constraintsIn (now constraints)) × (j < edgesOf (now b))))) ⌝ }
     ensures { λ r. ⌜ wayIn r ≡ smallest (endBy (now (constraints .entry)) (now (b .entry)) (now (figures .entry)) j c f o) ⌝ }
 {
     let k = store::constraint_at(constraints, c);
@@ -401,7 +401,7 @@ fn best_by(
     j: usize,
     c: usize,
 ) -> Best
-    requires { ⌜ (Ready (now constraints) (now b) t (now figures)) × ((j < edgesOf (now b)) × (c < constraintsIn (now constraints))) ⌝ }
+    requires { ⌜ (WaysReady (now constraints) (now b) t (now figures)) × ((j < edgesOf (now b)) × (c < constraintsIn (now constraints))) ⌝ }
     ensures { λ r. ⌜ wayIn r ≡ smallest (flatMap (endWays (now (constraints .entry)) (now (b .entry)) (now (figures .entry)) j c) (endsOf (now (b .entry)) j)) ⌝ }
 {
     let from = pattern::from(b, j);
@@ -426,7 +426,7 @@ pub fn best_for_edge(
     figures: &[u32; 8],
     j: usize,
 ) -> Best
-    requires { ⌜ (Ready (now constraints) (now b) t (now figures)) × (j < edgesOf (now b)) ⌝ }
+    requires { ⌜ (WaysReady (now constraints) (now b) t (now figures)) × (j < edgesOf (now b)) ⌝ }
     ensures { λ r. ⌜ wayIn r ≡ smallest (edgeWays (now (constraints .entry)) (now (b .entry)) (now (figures .entry)) j) ⌝ }
 {
     let n = constraints.len() / 12;

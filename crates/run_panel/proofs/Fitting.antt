@@ -16,7 +16,7 @@ use Rattle.rules.specs.Listing.{Gathered, matchesOf}
 use Rattle.rules.specs.declared.Listed.{Listed}
 use Rattle.rules.specs.Answers.{Outcome, answered, refused, outcome, boundNumber, gathered, cleared, readOutcome, listRefusal, listOutcome}
 use Rattle.laws.specs.PatternLaws.{RightHeader, pattern-says}
-use Rattle.list_found.specs.Reading.{told}
+use Rattle.list_found.specs.Reading.{listTold}
 use Rattle.io.specs.Counts.{Counts}
 use Rattle.run_text.specs.Text.{Wrote}
 use Rattle.run_text.specs.TextLaws.{wrote-then}
@@ -30,7 +30,7 @@ counted n out h = (h, sym (length-take-le n out h))
 abbrev pub first : Outcome → ℕ
 first o = getD (o .results) 0 0
 
--- rows that are told fit the room
+-- rows that are listTold fit the room
 read-fit : (b : List ℕ) (t : ℕ) (o : Option Gathered) (work room : List ℕ) → 0 < first (readOutcome b t o work room) → first (readOutcome b t o work room) * sizeOf b ≤ length room
 unfolding readOutcome outcome answered refused
 read-fit b t none work room h = absurd (omega arith)
@@ -82,7 +82,7 @@ rows-fit s b work room = go (eqb (listRefusal s b work) 0) refl
     go false e h = absurd (omega arith)
 
 -- ---- what is shown
-module _ (s b work : List ℕ) (l : Listed) (room : List ℕ) (is : told l room work ≡ listOutcome s b (replicate 4096 0) (replicate 1024 0)) where
+module _ (s b work : List ℕ) (l : Listed) (room : List ℕ) (is : listTold l room work ≡ listOutcome s b (replicate 4096 0) (replicate 1024 0)) where
   matches-is : l .matches ≡ first (listOutcome s b (replicate 4096 0) (replicate 1024 0))
   matches-is = ap first is
 

@@ -15,7 +15,7 @@ use Rattle.rules.specs.declared.Key.{Key}
 use Rattle.rules.specs.declared.Found.{Found}
 use Rattle.laws.specs.Halving.{half-done}
 use Rattle.store_finger.specs.Order.{keyLess, passes}
-use Rattle.store_finger.specs.Path.{Reach, Going, Stepped, Steps, Path, Fresh, Pushed, Kept, Ended, keyIn, spanAt, startAt, putStep, putHead}
+use Rattle.store_finger.specs.Path.{Reach, PathGoing, Stepped, Steps, Path, Fresh, Pushed, Kept, Ended, keyIn, spanAt, startAt, putStep, putHead}
 use Rattle.store_finger.specs.declared.Span.{Span}
 use Rattle.store_finger.specs.declared.End.{End}
 use Rattle.store_finger.proofs.Reaching.{passes-none, passes-absent, passes-tested, lower-first, lower-second, reach-start, reach-later, reach-going, step-up, step-down}
@@ -90,10 +90,10 @@ module _ {groups : List ℕ} {key : Key} {path : List ℕ} {n : ℕ} where
   pub steps-later : {k : Key} → Steps groups key path n → keyLess k key ≡ false → Steps groups k path n
   steps-later s h = record { step = λ i k. reach-later groups (s .step i k) h }
 
-  pub kept-going : groupsIn groups ≤ 262144 → Kept groups key path n → Going groups key (startAt groups path n)
+  pub kept-going : groupsIn groups ≤ 262144 → Kept groups key path n → PathGoing groups key (startAt groups path n)
   kept-going h k = go (decLe n 0)
     where
-      go : Dec (n ≤ 0) → Going groups key (startAt groups path n)
+      go : Dec (n ≤ 0) → PathGoing groups key (startAt groups path n)
       go (yes q) =
           rw (start-none groups path n (omega arith)) (reach-going groups (reach-start groups key 4294967295) (passes-none groups key 4294967295 (omega arith)))
       go (no q) = rw (start-some groups path n (omega arith)) (reach-going groups (k .steps .step (n - 1) (omega arith)) (k .clear (omega arith)))
@@ -151,12 +151,12 @@ kept-some m r s few h q e = record { few = omega arith; steps = steps-fewer s m 
 
 -- the search stands here with n steps kept, in a room that was `before`
 pub record Descending (groups : List ℕ) (key : Key) (before path : List ℕ) (at : Span) (n : ℕ) : Type 0 where
-  pub going : Going groups key at
+  pub going : PathGoing groups key at
   pub steps : Steps groups key path n
   pub few : n ≤ 30
   pub same : length path ≡ length before
 
-pub begun : {groups : List ℕ} {key : Key} {path : List ℕ} {at : Span} {n : ℕ} → Going groups key at → Steps groups key path n → n ≤ 30
+pub begun : {groups : List ℕ} {key : Key} {path : List ℕ} {at : Span} {n : ℕ} → PathGoing groups key at → Steps groups key path n → n ≤ 30
     → Descending groups key path path at n
 begun g s few = record { going = g; steps = s; few = few; same = refl }
 
@@ -177,7 +177,7 @@ pub kept-steps : {groups path : List ℕ} (key k : Key) (r : Bool) → Path grou
 kept-steps key k r p e q h = steps-later (p .steps) (ap (keyLess key) (sym e) ∙ sym q ∙ h)
 
 pub started : {groups : List ℕ} {key : Key} {path : List ℕ} {n : ℕ} (at : Span) → groupsIn groups ≤ 262144 → Kept groups key path n
-    → at ≡ startAt groups path n → Going groups key at
+    → at ≡ startAt groups path n → PathGoing groups key at
 started at h k e = rw e (kept-going h k)
 
 pub path-again : {groups : List ℕ} {key : Key} {before after last : List ℕ} {end : End} → 128 ≤ length before → Ended groups key before after end

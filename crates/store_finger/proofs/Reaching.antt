@@ -11,7 +11,7 @@ use Rattle.rules.specs.Listing.{precedes, lowOf}
 use Rattle.rules.specs.declared.Key.{Key}
 use Rattle.laws.specs.Halving.{half-start, half-up, half-down}
 use Rattle.store_finger.specs.Order.{keyLess, groupKey, passes, lowerGroup}
-use Rattle.store_finger.specs.Path.{Reach, Going, Stepped}
+use Rattle.store_finger.specs.Path.{Reach, PathGoing, Stepped}
 use Rattle.store_finger.specs.declared.Span.{Span}
 use Rattle.store_finger.proofs.Ordering.{denied, key-through, key-apart, key-self, key-later}
 
@@ -99,11 +99,11 @@ module _ (groups : List ℕ) where
   pub reach-later : {key k : Key} {at : Span} → Reach groups key at → keyLess k key ≡ false → Reach groups k at
   reach-later {key} {k} r h = record { left = λ j g p. r .left j (key-later key k j h g) p }
 
-  pub reach-going : {key : Key} {at : Span} → Reach groups key at → passes groups key (at .least) ≡ true → Going groups key at
+  pub reach-going : {key : Key} {at : Span} → Reach groups key at → passes groups key (at .least) ≡ true → PathGoing groups key at
   reach-going {key} r p = record { left = r .left key (key-self key) p; reach = r }
 
 -- ---- a step, with the test that the code has made
-module _ {groups : List ℕ} {key : Key} {at : Span} (g : Going groups key at) (h : at .low < at .high) (r : Bool) (q : r ≡ precedes groups key ((at .low + at .high) / 2)) where
+module _ {groups : List ℕ} {key : Key} {at : Span} (g : PathGoing groups key at) (h : at .low < at .high) (r : Bool) (q : r ≡ precedes groups key ((at .low + at .high) / 2)) where
   pub step-up : r ≡ true → Stepped groups key at (record { low = (at .low + at .high) / 2 + 1; high = at .high; least = at .least })
   step-up e =
       let ahead : (k : Key) → keyLess k key ≡ false → precedes groups k ((at .low + at .high) / 2) ≡ true = λ k l. stays groups key k _ l (sym q ∙ e) in

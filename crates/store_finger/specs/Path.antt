@@ -22,13 +22,13 @@ pub record Reach (groups : List ℕ) (key : Key) (at : Span) : Type 0 where
   pub left : (k : Key) → keyLess k key ≡ false → passes groups k (at .least) ≡ true → Left groups k at
 
 -- the search for the key stands here
-pub record Going (groups : List ℕ) (key : Key) (at : Span) : Type 0 where
+pub record PathGoing (groups : List ℕ) (key : Key) (at : Span) : Type 0 where
   pub left : Left groups key at
   pub reach : Reach groups key at
 
 -- it stands nearer to its end
 pub record Stepped (groups : List ℕ) (key : Key) (at next : Span) : Type 0 where
-  pub going : Going groups key next
+  pub going : PathGoing groups key next
   pub less : next .high - next .low < at .high - at .low
 
 -- the key of the last search

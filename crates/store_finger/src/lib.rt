@@ -11,7 +11,7 @@ ghost use lib.ListN.{length};
 ghost use Rattle.rules.specs.Store.{groupsIn};
 ghost use Rattle.rules.specs.Listing.{lowOf, found};
 ghost use Rattle.store_finger.specs.Order.{keyLess, groupKey, passes, lowerGroup};
-ghost use Rattle.store_finger.specs.Path.{Going, Steps, Path, Fresh, keyIn, startAt, putStep, putHead, Stepped, Pushed, Kept, Ended};
+ghost use Rattle.store_finger.specs.Path.{PathGoing, Steps, Path, Fresh, keyIn, startAt, putStep, putHead, Stepped, Pushed, Kept, Ended};
 
 // Where a search stands: low and high, and of the groups that it went left at one with the least key, or 4,294,967,295.
 pub struct Span {
@@ -74,7 +74,7 @@ fn lower_group(groups: &[u8], m: u32, i: u32) -> u32
 
 // One step of the search.
 fn step(groups: &[u8], key: Key, at: Span) -> Span
-    requires { ⌜ Going (now groups) key at × (at .low < at .high) × (groupsIn (now groups) ≤ 262144) ⌝ }
+    requires { ⌜ PathGoing (now groups) key at × (at .low < at .high) × (groupsIn (now groups) ≤ 262144) ⌝ }
     ensures { λ r. ⌜ Stepped (now (groups .entry)) key at r ⌝ }
 {
     let middle = (at.low + at.high) / 2;
@@ -116,7 +116,7 @@ fn push(path: &mut [u32], n: usize, at: Span) -> usize
 
 // Goes on from where the search stands, with n steps kept.
 fn descend(groups: &[u8], key: Key, path: &mut [u32], kept: usize, start: Span) -> End
-    requires { ⌜ Going (now groups) key start × Steps (now groups) key (now path) kept × (kept ≤ 30) × (128 ≤ length (now path)) × (groupsIn (now groups) ≤ 262144) ⌝ }
+    requires { ⌜ PathGoing (now groups) key start × Steps (now groups) key (now path) kept × (kept ≤ 30) × (128 ≤ length (now path)) × (groupsIn (now groups) ≤ 262144) ⌝ }
     ensures { λ r. ⌜ Ended (now (groups .entry)) key (now (path .entry)) (now (path .exit)) r ⌝ }
 {
     let mut at = start;

@@ -4,9 +4,9 @@ use Rattle.rules.specs.Store.{constraintsIn}
 use Rattle.rules.specs.Lists.{setOf}
 use Rattle.laws.specs.Loops.{FoldLeft, fold-start, fold-next, fold-done}
 use Rattle.build_edges.specs.Packed.{forwardWords}
-use Rattle.build_groups.specs.declared.Task.{Task}
+use Rattle.build_groups.specs.declared.Purpose.{Purpose}
 use Rattle.build_keys.specs.Pass.{visited, visitedAll}
-use Rattle.build_groups.specs.Emit.{Sink, sinkOf}
+use Rattle.build_groups.specs.Emit.{Output, outputOf}
 use Rattle.build_index.proofs.Visiting.{ready-same}
 use lib.ListN.{length}
 use Prim.Native.Nat.{ℕ, _-_}
@@ -19,13 +19,13 @@ use Rattle.build_index.proofs.passes.visit_all.Tie as tie
 abbrev Inv-loop : tie.InvT-loop
 Inv-loop task nodes joined starts edges begins constraints one₀ two₀ three₀ second₀ third₀ store room₀ k t₀ c₀ one two three second third room t c =
     ((length one ≡ length one₀) × (length two ≡ length two₀) × (length three ≡ length three₀) × (length second ≡ length second₀) × (length third ≡ length third₀) × (length room ≡ length room₀))
-    × FoldLeft (visited task nodes (setOf joined) (forwardWords edges) constraints store) (constraintsIn constraints) c (sinkOf t room)
-    (visitedAll task nodes (setOf joined) (forwardWords edges) constraints store (sinkOf t₀ room₀))
+    × FoldLeft (visited task nodes (setOf joined) (forwardWords edges) constraints store) (constraintsIn constraints) c (outputOf t room)
+    (visitedAll task nodes (setOf joined) (forwardWords edges) constraints store (outputOf t₀ room₀))
 
 abbrev μ-loop : tie.MeasureT-loop
 μ-loop task nodes joined starts edges begins constraints one₀ two₀ three₀ second₀ third₀ store room₀ k t₀ c₀ one two three second third room t c = k - c
 
-start : (task : Task) (nodes joined words constraints store : List ℕ) (s : Sink)
+start : (task : Purpose) (nodes joined words constraints store : List ℕ) (s : Output)
     → FoldLeft (visited task nodes joined words constraints store) (constraintsIn constraints) 0 s (visitedAll task nodes joined words constraints store s)
 unfolding visitedAll
 start task nodes joined words constraints store s = fold-start (visited task nodes joined words constraints store) (constraintsIn constraints) s

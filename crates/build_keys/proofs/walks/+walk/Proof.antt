@@ -12,7 +12,7 @@ use borrow.Fn.Kinds.{In}
 use borrow.Fn.PlainCycle.{Measures, is, falls, and}
 use Rattle.build_neighbours.proofs.part_of.Reads as part-of-reads
 use Rattle.build_neighbours.proofs.run_end.Reads as run-end-reads
-use Rattle.build_keys.proofs.Going.{Going, labels-fall, fit-next, begun, ascends, part-short, small, part-kept, taken, stopped, ended, none, whole}
+use Rattle.build_keys.proofs.Going.{WalkGoing, labels-fall, fit-next, begun, ascends, part-short, small, part-kept, taken, stopped, ended, none, whole}
 use Rattle.build_keys.proofs.walks.walk.Reads as walk
 use Rattle.build_keys.proofs.walks.walk.Kinds as walk-kinds
 use Rattle.build_keys.proofs.walks.+walk.Lts-walk as walk-lts
@@ -37,7 +37,7 @@ walk-calls t = (emit-one-reads.Asked, emit-one-reads.Learnt, paired-reads.Asked,
 abbrev walk-Inv-loop : walk-lts.InvT-loop
 walk-Inv-loop task nodes joined starts edges begins l left key at list one₀ two₀ first second₀ store room₀ n none₀ empty₀ t₀ i₀ one two second room none empty t i =
     ((length one ≡ length one₀) × (length two ≡ length two₀) × (length second ≡ length second₀) × (length room ≡ length room₀) × (length none ≡ 1) × (length empty ≡ 1))
-    × Going task nodes (setOf joined) (forwardWords edges) left key at list store t₀ room₀ first n i t room
+    × WalkGoing task nodes (setOf joined) (forwardWords edges) left key at list store t₀ room₀ first n i t room
 
 abbrev walk-μ-loop : walk-lts.MeasureT-loop
 walk-μ-loop task nodes joined starts edges begins l left key at list one₀ two₀ first second₀ store room₀ n none₀ empty₀ t₀ i₀ one two second room none empty t i =
