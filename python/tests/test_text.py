@@ -174,6 +174,8 @@ class FeedErrors(unittest.TestCase):
         for name in ("", "\ud800"):
             with self.assertRaisesRegex(WrongName, "a name has at least one character, all of them Unicode"):
                 Graph().add_node(name, 1)
+        with self.assertRaisesRegex(WrongName, "the name of a node is a text, and 17 is none"):
+            Graph().add_node(17, 1)
 
     def test_other_bytes(self):
         with tempfile.TemporaryDirectory() as directory:
