@@ -50,6 +50,10 @@ def _add_store(command: argparse.ArgumentParser, nargs: str | None = None) -> No
     command.add_argument(
         "store", nargs=nargs, metavar="STORE", help="a store; or a .feed file, which is built without being kept"
     )
+    _add_names(command)
+
+
+def _add_names(command: argparse.ArgumentParser) -> None:
     group = command.add_mutually_exclusive_group()
     group.add_argument("--names", metavar="FILE", help="names from this .names or .feed file, not from beside the store")
     group.add_argument("--no-names", action="store_true", help="show ids and label numbers")
@@ -58,6 +62,12 @@ def _add_store(command: argparse.ArgumentParser, nargs: str | None = None) -> No
 def _add_pattern(command: argparse.ArgumentParser, nargs: str | None = None) -> None:
     command.add_argument(
         "pattern", metavar="PATTERN", nargs=nargs, help="a .pat file; any other is read as the bytes of a pattern"
+    )
+
+
+def _add_unchecked(command: argparse.ArgumentParser) -> None:
+    command.add_argument(
+        "--unchecked", action="store_true", help="go on with a store that is not admitted: matches may be missing"
     )
 
 
@@ -75,6 +85,8 @@ def _add_build(command: argparse.ArgumentParser) -> None:
     command.add_argument("graph", metavar="GRAPH", help="a .feed file; any other is read as the bytes of a draft")
     command.add_argument("-o", "--output", required=True, metavar="STORE", help="the store; its names stand beside it")
     command.add_argument("--draft", action="store_true", help="write the draft, without an index")
+    _add_names(command)
+    _add_force(command)
 
 
 def _add_admit(command: argparse.ArgumentParser) -> None:
@@ -98,16 +110,18 @@ def _add_list(command: argparse.ArgumentParser) -> None:
     command.add_argument("--csv", action="store_true", help="the rows as CSV")
     command.add_argument("--ids", action="store_true", help="node ids in place of names")
     command.add_argument("--count", action="store_true", help="only how many, a line for each of many patterns")
+    _add_unchecked(command)
     _add_room(command)
 
 
 def _add_show(command: argparse.ArgumentParser) -> None:
     _add_store(command)
     _add_json(command)
+    _add_unchecked(command)
 
 
 def _add_force(command: argparse.ArgumentParser) -> None:
-    command.add_argument("--force", action="store_true", help="write over a text that is there already")
+    command.add_argument("--force", action="store_true", help="write over a file that is there already, whatever it is")
 
 
 def _add_text(command: argparse.ArgumentParser) -> None:
@@ -132,6 +146,8 @@ def _add_draw(command: argparse.ArgumentParser) -> None:
     command.add_argument("-o", "--output", metavar="FILE", help=".dot, .svg, .png or .pdf; else DOT on standard output")
     command.add_argument("--most", type=_count, default=50, metavar="N", help="draw the first N matches (%(default)s)")
     command.add_argument("--near", type=_count, default=3, metavar="N", help="draw N neighbours of each node (%(default)s)")
+    _add_force(command)
+    _add_unchecked(command)
     _add_room(command)
 
 

@@ -7,7 +7,8 @@ from typing import Iterator, NamedTuple
 from . import library
 from .pattern import Pattern
 from .records import NO_CHOSEN
-from .store import Store
+from .store import AdmittedStore, Store
+from .wrong import Wrong
 
 
 class Row(NamedTuple):
@@ -21,13 +22,23 @@ class Row(NamedTuple):
     figure: int
 
 
-class Plan(NamedTuple):
-    """What listing will read: at most bound entries, row by row."""
+class Plan:
+    """What listing will read: at most bound entries. Its length, and what it iterates over, are its rows."""
 
-    store: Store
-    pattern: Pattern
-    bound: int
-    rows: list[Row]
+    def __init__(self, store: Store, pattern: Pattern, bound: int, rows: list[Row]):
+        self.store, self.pattern, self.bound, self.rows = store, pattern, bound, rows
+
+    def __len__(self) -> int:
+        return len(self.rows)
+
+    def __iter__(self) -> Iterator[Row]:
+        return iter(self.rows)
+
+    def __getitem__(self, step: int) -> Row:
+        return self.rows[step]
+
+    def __repr__(self) -> str:
+        return f"<Plan: T = {self.bound}, {len(self)} steps>"
 
     def what(self, row: Row) -> str:
         """The pattern node or edge of a row, by name."""
@@ -41,16 +52,33 @@ class Plan(NamedTuple):
         return self.store.names.constraint(self.store.constraints[row.constraint])
 
 
-class Listing(NamedTuple):
-    """The matches of a pattern, and what was read for them."""
+class Listing:
+    """The matches of a pattern, and what was read for them.
 
-    store: Store
-    pattern: Pattern
-    matches: int
-    node_entries: int
-    edge_entries: int
-    bound: int
-    rows: list[tuple[int, ...]]
+    Its length is the number of matches, and it iterates over them by name; rows has them by node id.
+    """
+
+    def __init__(self, store: Store, pattern: Pattern, listed: library.Listed):
+        self.store, self.pattern = store, pattern
+        self.matches, self.node_entries, self.edge_entries, self.bound, self.rows = listed
+
+    def __len__(self) -> int:
+        return self.matches
+
+    def __iter__(self) -> Iterator[dict[str, str]]:
+        return self.named()
+
+    def __getitem__(self, place: int) -> dict[str, str]:
+        return self._by_name(self.rows[place])
+
+    def __repr__(self) -> str:
+        checked = "" if self.admitted else ", unchecked"
+        return f"<Listing: {self.matches} matches, {self.entries} entries read of at most {self.bound}{checked}>"
+
+    @property
+    def admitted(self) -> bool:
+        """Whether the store was admitted: else matches may be missing."""
+        return isinstance(self.store, AdmittedStore)
 
     @property
     def entries(self) -> int:
@@ -59,13 +87,15 @@ class Listing(NamedTuple):
 
     def named(self) -> Iterator[dict[str, str]]:
         """Each match as pattern node -> graph node, by name."""
-        columns, nodes = self.pattern.node_names(), self.store.names.nodes
-        for row in self.rows:
-            yield dict(zip(columns, map(nodes.name, row)))
+        return map(self._by_name, self.rows)
+
+    def _by_name(self, row: tuple[int, ...]) -> dict[str, str]:
+        return dict(zip(self.pattern.node_names(), map(self.store.names.nodes.name, row)))
 
 
 def plan(store: Store, pattern: Pattern) -> Plan:
     """The plan of a pattern over a store or draft; Refused where there is none."""
+    _check("plan", store, pattern)
     bound, rows = library.plan(store.data, pattern.encode(store.names))
     return Plan(store, pattern, bound, [_row(row) for row in rows])
 
@@ -75,10 +105,33 @@ def _row(words: tuple[int, ...]) -> Row:
     return Row(kind == 1, number, fetched, constraint, tuple(c for c in chosen if c != NO_CHOSEN), figure)
 
 
-def list_matches(store: Store, pattern: Pattern, most_words: int = library.MOST_ROOM_WORDS) -> Listing:
-    """The matches of a pattern in a store; Refused where there is no plan, or a list is unfit.
+def list_matches(store: AdmittedStore, pattern: Pattern, most_words: int = library.MOST_ROOM_WORDS) -> Listing:
+    """The matches of a pattern in the whole graph of a store; Refused where there is no plan.
 
-    They are the matches of the whole graph if the store is admitted, as one that was built is.
+    It takes a store that is admitted, as a built one is: Store.admit() gives it.
     """
-    listed = library.list_matches(store.data, pattern.encode(store.names), most_words)
-    return Listing(store, pattern, *listed)
+    _check("list", store, pattern)
+    if not isinstance(store, AdmittedStore):
+        raise Wrong(
+            "this store is not admitted, so matches may be missing: list(store.admit(), pattern), "
+            "or list_unchecked(store, pattern) if that is wanted"
+        )
+    return list_unchecked(store, pattern, most_words)
+
+
+def list_unchecked(store: Store, pattern: Pattern, most_words: int = library.MOST_ROOM_WORDS) -> Listing:
+    """What the library lists from any store: matches may be missing where it is not admitted.
+
+    Refused where there is no plan, or a list that is read is unfit.
+    """
+    _check("list_unchecked", store, pattern)
+    return Listing(store, pattern, library.list_matches(store.data, pattern.encode(store.names), most_words))
+
+
+def _check(call: str, store: Store, pattern: Pattern) -> None:
+    """Says what was given in place of a store or a pattern."""
+    if not isinstance(store, Store):
+        hint = ": build() gives the store of a graph" if hasattr(store, "build") else ": Store.read gives one"
+        raise Wrong(f"{call} takes a store first, and not a {type(store).__name__}{hint}")
+    if not isinstance(pattern, Pattern):
+        raise Wrong(f"{call} takes a pattern second, and not a {type(pattern).__name__}: Pattern.read gives one")

@@ -8,7 +8,7 @@ import sys
 from pathlib import Path
 from typing import Sequence
 
-from . import arguments, calls, draw, importing, library, tables
+from . import arguments, calls, draw, importing, library, outputs, tables
 from .files import write_whole
 from .graph import Graph
 from .measure import measured
@@ -16,12 +16,12 @@ from .names import Names, read_names
 from .numbers import Refused
 from .pattern import Pattern
 from .records import draft_of
-from .store import Store
+from .store import AdmittedStore, Store
 from .wrong import Wrong
 
 ANSWERED, REFUSED, WRONG_USE = 0, 1, 2
 INTERRUPTED = 130
-_PICTURES = (".svg", ".png", ".pdf")
+_INPUTS = ("graph", "store", "pattern", "file", "nodes", "names")  # the arguments that name a file to be read
 
 
 def main(given: Sequence[str] | None = None) -> int:
@@ -54,7 +54,7 @@ def _tell_refusal(refused: Refused, as_json: bool) -> None:
     if as_json:
         print(tables.refusal_json(refused))
     _complain(str(refused))
-    for line in [*refused.detail.split("\n"), refused.advice]:
+    for line in f"{refused.detail}\n{refused.advice}".split("\n"):
         if line:
             print(f"  {line}", file=sys.stderr)
 
@@ -78,12 +78,40 @@ def _store(asked: argparse.Namespace, built: bool = True) -> Store:
     if _is_text(asked.store, ".feed"):
         graph = Graph.read(asked.store)
         return graph.build() if built else Store(graph.draft(), graph.names)
+    return _read_store(asked.store, asked)
+
+
+def _read_store(path: str, asked: argparse.Namespace) -> Store:
+    """The store or draft of a file of bytes, with the names that are asked for."""
     if asked.no_names:
-        return Store.read(asked.store, Names())
+        return Store.read(path, Names())
     if not asked.names:
-        return Store.read(asked.store)
-    data = Path(asked.store).read_bytes()
+        return Store.read(path)
+    data = Path(path).read_bytes()
     return Store(data, _names(asked.names, data))
+
+
+def _trusted_store(asked: argparse.Namespace) -> Store:
+    """The store, admitted: what is told of any other may lack matches, so that has to be asked for."""
+    store = _store(asked)
+    if asked.unchecked:
+        return store
+    try:
+        return store.admit()
+    except Refused as refused:
+        refused.advice += "\nto go on with what is there, though matches may be missing, give --unchecked"
+        raise
+
+
+def _listing(asked: argparse.Namespace, store: Store, pattern: Pattern) -> calls.Listing:
+    listed = calls.list_matches if isinstance(store, AdmittedStore) else calls.list_unchecked
+    return listed(store, pattern, asked.room)
+
+
+def _warn_unchecked(store: Store) -> None:
+    """For answers that a program or a picture viewer reads, beside the answer itself."""
+    if not isinstance(store, AdmittedStore):
+        _complain(tables.UNCHECKED)
 
 
 def _read_pattern(path: str) -> Pattern:
@@ -106,34 +134,36 @@ def _names(path: str, store: bytes) -> Names:
 
 
 def _build(asked: argparse.Namespace) -> int:
-    _check_bytes_output(asked.output)
     _refuse_text(asked.graph, ".pat", "a graph")
-    if _is_text(asked.graph, ".feed"):
-        graph = Graph.read(asked.graph)
-        store = Store(graph.draft(), graph.names) if asked.draft else graph.build()
-    else:
-        store = Store(library.build(Path(asked.graph).read_bytes()))
+    outputs.check_bytes(asked.output, outputs.STORE, _inputs(asked), asked.force)
+    store = _built(asked)
+    if store.names:
+        outputs.check_names(asked.output, _inputs(asked), asked.force)
     names = store.write(asked.output)
     print(f"{asked.output}: {tables.counts_text(store)}" + (f"; names in {names}" if names else ""))
     return ANSWERED
 
 
-def _check_bytes_output(path: str) -> None:
-    if Path(path).suffix in (".feed", ".pat", ".names"):
-        raise Wrong(f"{path}: -o names a file of bytes, and {Path(path).suffix} is a text form")
+def _built(asked: argparse.Namespace) -> Store:
+    """The store, or the draft if that is asked for, of a .feed file or of a draft."""
+    if _is_text(asked.graph, ".feed"):
+        graph = Graph.read(asked.graph)
+        return Store(graph.draft(), graph.names) if asked.draft else graph.build()
+    if asked.draft:
+        raise Wrong(f"--draft makes a draft of a .feed file, and {asked.graph} is none")
+    draft = _read_store(asked.graph, asked)
+    return AdmittedStore.built(draft.data, draft.names)
 
 
-def _check_text_output(path: str, suffix: str, force: bool) -> None:
-    """A text that someone may have typed is not written over."""
-    if Path(path).suffix != suffix:
-        raise Wrong(f"{path}: -o names a text, and its name must end in {suffix}")
-    if Path(path).exists() and not force:
-        raise Wrong(f"{path} is there already: give --force to write over it")
+def _inputs(asked: argparse.Namespace) -> list[str]:
+    """The files that the command reads, as they are named."""
+    named = [getattr(asked, name, None) or [] for name in _INPUTS]
+    return [path for one in named for path in ([one] if isinstance(one, str) else one)]
 
 
 def _admit(asked: argparse.Namespace) -> int:
     _refuse_text(asked.store, ".feed", "a store, as 'bahrufaz build' makes it,")
-    library.admit(Path(asked.store).read_bytes())
+    Store.read(asked.store, Names()).admit()
     print(f"{asked.store} is admitted: building from its nodes, edges and constraints gives the same bytes")
     return ANSWERED
 
@@ -149,7 +179,9 @@ def _list(asked: argparse.Namespace) -> int:
         return _list_counts(asked)
     if len(asked.pattern) > 1:
         raise Wrong("more than one pattern is given: use --count, or list them one by one")
-    listing = calls.list_matches(_store(asked), _read_pattern(asked.pattern[0]), asked.room)
+    listing = _listing(asked, _trusted_store(asked), _read_pattern(asked.pattern[0]))
+    if asked.json or asked.csv:
+        _warn_unchecked(listing.store)
     if asked.json:
         print(tables.listing_json(listing, asked.ids))
     elif asked.csv:
@@ -161,21 +193,23 @@ def _list(asked: argparse.Namespace) -> int:
 
 def _list_counts(asked: argparse.Namespace) -> int:
     """A line for each pattern: its answer, and how much was found and read."""
-    store, rows, worst = _store(asked), [], ANSWERED
+    store, rows, worst = _trusted_store(asked), [], ANSWERED
     for path in asked.pattern:
         pattern = _read_pattern(path)
         try:
-            told = calls.list_matches(store, pattern, asked.room)
+            told = _listing(asked, store, pattern)
             rows.append((Path(path).name, 0, told.matches, told.entries, told.bound, ""))
         except Refused as refused:
             rows.append((Path(path).name, refused.number, "", "", "", refused.sentence))
             worst = REFUSED
-    print(tables.table(("pattern", "answer", "matches", "read", "T", ""), rows))
+    print(tables.marked(store, tables.table(("pattern", "answer", "matches", "read", "T", ""), rows)))
     return worst
 
 
 def _show(asked: argparse.Namespace) -> int:
-    store = _store(asked)
+    store = _trusted_store(asked)
+    if asked.json:
+        _warn_unchecked(store)
     print(tables.store_json(store) if asked.json else tables.store_text(store))
     return ANSWERED
 
@@ -195,7 +229,7 @@ def _pattern(asked: argparse.Namespace) -> int:
         return ANSWERED
     if not asked.output:
         raise Wrong("-o is needed: the bytes of a pattern are not for a terminal")
-    _check_bytes_output(asked.output)
+    outputs.check_bytes(asked.output, outputs.PATTERN, _inputs(asked), asked.force)
     data = pattern.encode(names)
     write_whole(asked.output, data)
     print(f"{asked.output}: {tables.counted(len(data), 'byte', 'bytes')}")
@@ -207,17 +241,20 @@ def _put(asked: argparse.Namespace, text: str, suffix: str) -> None:
     if not asked.output:
         sys.stdout.write(text)
         return
-    _check_text_output(asked.output, suffix, asked.force)
+    outputs.check_text(asked.output, suffix, _inputs(asked), asked.force)
     write_whole(asked.output, text)
 
 
 def _draw(asked: argparse.Namespace) -> int:
+    if asked.output:
+        outputs.check_picture(asked.output, _inputs(asked), asked.force)
     dot, told = _dot(asked)
     if not asked.output:
         print(dot)
         return ANSWERED
     suffix = Path(asked.output).suffix
-    write_whole(asked.output, draw.picture(dot, suffix[1:]) if suffix in _PICTURES else dot + "\n")
+    drawn = suffix in outputs.PICTURES and suffix != ".dot"
+    write_whole(asked.output, draw.picture(dot, suffix[1:]) if drawn else dot + "\n")
     print(f"{asked.output}: {told}")
     return ANSWERED
 
@@ -233,12 +270,13 @@ def _dot(asked: argparse.Namespace) -> tuple[str, str]:
     if asked.what == "plan":
         plan = calls.plan(_store(asked, built=False), pattern)
         return draw.plan_dot(plan, caption), f"the plan, T = {plan.bound}"
-    listing = calls.list_matches(_store(asked), pattern, asked.room)
+    listing = _listing(asked, _trusted_store(asked), pattern)
+    _warn_unchecked(listing.store)
     return draw.matches_dot(listing, asked.most, asked.near, caption), draw.shown_of(listing, asked.most)
 
 
 def _import(asked: argparse.Namespace) -> int:
-    _check_text_output(asked.output, ".feed", asked.force)
+    outputs.check_text(asked.output, ".feed", _inputs(asked), asked.force)
     keys = importing.Keys(asked.name_key, asked.label_key, asked.value_key)
     if Path(asked.file).suffix == ".graphml":
         imported = importing.import_graphml(asked.file, asked.label, keys)

@@ -10,7 +10,7 @@ from .calls import Listing, Plan
 from .names import Names
 from .pattern import Pattern, conditions_text
 from .store import Store
-from .tables import counted
+from .tables import UNCHECKED, counted
 from .wrong import Wrong
 
 _FILLS = ("#cfe3f5", "#fbe3c0", "#d5edcf", "#f6d3d5", "#e2d8f0", "#f3efb5", "#cdeeea", "#e8dccf")
@@ -147,7 +147,8 @@ def matches_dot(listing: Listing, most: int = 50, near: int = 3, caption: str = 
     for edge in scene.edges:
         style = {"penwidth": 2} if edge in scene.matched else {"color": _GREY}
         body.append(f"{edge[0]} -> {edge[1]} {_attributes(**style)}")
-    return _digraph(f"{caption}\n{shown_of(listing, most)}", body)
+    told = [caption, shown_of(listing, most), *([] if listing.admitted else [UNCHECKED])]
+    return _digraph("\n".join(told), body)
 
 
 def _matched_node(scene: _Scene, store: Store, node: int) -> str:

@@ -6,7 +6,7 @@ from typing import TYPE_CHECKING, Callable
 
 from .records import MAX_LABEL, MAX_N, MAX_VALUE, MIN_VALUE
 from .text import Line, Token, aligned, lines_of, spelled
-from .wrong import WrongGraph, WrongName
+from .wrong import WrongGraph, WrongName, WrongText
 
 if TYPE_CHECKING:
     from .graph import Graph
@@ -15,8 +15,12 @@ if TYPE_CHECKING:
 def fill(graph: Graph, text: str, file: str) -> None:
     """Puts a text into an empty graph; labels, nodes, edges and constraints may stand in any order."""
     lines: dict[str, list[Line]] = {kind: [] for kind in _TAKERS}
+    last = 1
     for line in lines_of(text, file):
         lines[line.choose(lines, "label, node, edge or constraint")].append(line)
+        last = line.line
+    if not lines["node"] and not lines["no"]:
+        raise WrongText(file, last, "expected a node line: a graph without nodes says so, by the line 'no nodes'")
     for kind, take in _TAKERS.items():
         for line in lines[kind]:
             try:
@@ -78,6 +82,13 @@ def _node_line(line: Line, graph: Graph) -> None:
     graph.add_node(name, label, value)
 
 
+def _no_nodes_line(line: Line, graph: Graph) -> None:
+    line.want("nodes")
+    line.end()
+    if graph.nodes:
+        raise line.error("expected no node line beside 'no nodes'")
+
+
 def _edge_line(line: Line, graph: Graph) -> None:
     graph.add_edge(*take_edge(line))
 
@@ -99,6 +110,7 @@ def _constraint_line(line: Line, graph: Graph) -> None:
 _TAKERS: dict[str, Callable[[Line, "Graph"], None]] = {
     "label": _label_line,
     "node": _node_line,
+    "no": _no_nodes_line,
     "edge": _edge_line,
     "constraint": _constraint_line,
 }
@@ -109,7 +121,7 @@ def text_of(graph: Graph) -> str:
     labels, nodes = graph.names.labels, graph.names.nodes
     parts = [
         aligned((f"label {spelled(name)}", str(number)) for number, name in labels.items()),
-        aligned(_node_words(graph, place) for place in range(len(graph.nodes))),
+        aligned(_node_words(graph, place) for place in range(len(graph.nodes))) or ["no nodes"],
         [f"edge {nodes.spelled(start)} -> {nodes.spelled(end)}" for start, end in sorted(graph.edges)],
         [f"constraint {graph.names.constraint(one)}" for one in graph.constraints],
     ]

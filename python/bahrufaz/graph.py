@@ -23,8 +23,9 @@ from .records import (
     draft_of,
     sections_of,
 )
-from .store import Store
+from .store import AdmittedStore, Store
 from .text import read_text
+from .whole import within
 from .wrong import WrongGraph, WrongName
 
 
@@ -33,13 +34,6 @@ class Node(NamedTuple):
 
     label: int
     value: int = 0
-
-
-def within(what: str, number: int, low: int, high: int) -> int:
-    """The number, if it may be that."""
-    if not low <= number <= high:
-        raise WrongGraph(f"{what} is {number:,}, and must be from {low:,} to {high:,}")
-    return number
 
 
 class Graph:
@@ -58,9 +52,9 @@ class Graph:
 
     def add_label(self, name: str, number: int | None = None) -> int:
         """Names a label; without a number it takes the one after the label added before."""
-        wanted = self._last_label + 1 if number is None else number
-        self._last_label = within("the number of a label", wanted, 1, MAX_LABEL)
+        wanted = within("the number of a label", self._last_label + 1 if number is None else number, 1, MAX_LABEL)
         self.names.labels.add(wanted, name)
+        self._last_label = wanted
         return wanted
 
     def _label(self, label: str | int) -> int:
@@ -95,6 +89,8 @@ class Graph:
 
     def add_constraint(self, key_labels: Iterable[str | int], label: str | int, most: int) -> None:
         """S → (l, N): for one node of each key label, at most so many nodes of the label."""
+        if isinstance(key_labels, (str, int)):
+            raise WrongGraph(f"the labels of a key are given as a list: [{key_labels!r}]")
         key = sorted(map(self._label, key_labels))
         if len(key) > MAX_KEY_LABELS or len(set(key)) < len(key):
             raise WrongGraph(f"a constraint has at most {MAX_KEY_LABELS} labels before ->, each once")
@@ -109,10 +105,10 @@ class Graph:
         """The bytes of the draft: a store without its index."""
         return draft_bytes(self.nodes, self.edges, self.constraints)
 
-    def build(self) -> Store:
+    def build(self) -> AdmittedStore:
         """The store, built by the library; Refused where it refuses, with the list that is too long."""
         try:
-            return Store(library.build(self.draft()), self.names)
+            return AdmittedStore.built(self.draft(), self.names)
         except Refused as refused:
             if refused.number == 4:
                 refused.detail = self._too_long()

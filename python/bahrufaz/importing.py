@@ -3,12 +3,13 @@
 from __future__ import annotations
 
 import csv
+import io
 import xml.etree.ElementTree as xml
 from pathlib import Path
 from typing import Any, Callable, Iterator, NamedTuple, Sequence
 
 from .graph import Graph
-from .text import read_text
+from .text import Token, read_text
 from .wrong import Wrong, WrongGraph, WrongName, WrongText
 
 _ENDS = (("from", "to"), ("source", "target"))
@@ -60,10 +61,10 @@ class _Maker:
 
 
 def _whole(value: str | None) -> int:
-    try:
-        return int(value) if value else 0
-    except ValueError:
-        raise WrongGraph(f"a value is a whole number, and {value} is none") from None
+    number = Token("word", value).number if value else 0
+    if number is None:
+        raise WrongGraph(f"a value is a whole number, and {value} is none")
+    return number
 
 
 def import_csv(
@@ -102,19 +103,30 @@ def _csv_rows(
     file: str | Path, wanted: Sequence[tuple[str, ...]]
 ) -> Iterator[tuple[int, dict[str, str]]]:
     """The rows of a CSV file by column, in small letters; one of the wanted sets of columns is there."""
-    lines = read_text(file).split("\n")
-    delimiter = max(_DELIMITERS, key=lines[0].count)
-    reader = csv.reader(lines, delimiter=delimiter)
-    head = [column.strip().lower() for column in next(reader)]
+    text = read_text(file)
+    first = text.partition("\n")[0]
+    rows = _csv_cells(file, text, max(_DELIMITERS, key=first.count))
+    head = [column.strip().lower() for column in next(rows, (1, []))[1]]
     if not any(set(columns) <= set(head) for columns in wanted):
         shown = " or ".join(", ".join(columns) for columns in wanted)
-        raise WrongText(str(file), 1, f"expected a first line with the columns {shown}, found {lines[0]!r}")
-    for cells in reader:
-        if not any(cells):
-            continue
+        raise WrongText(str(file), 1, f"expected a first line with the columns {shown}, found {first!r}")
+    for line, cells in rows:
         if len(cells) != len(head):
-            raise WrongText(str(file), reader.line_num, f"expected {len(head)} columns, found {len(cells)}")
-        yield reader.line_num, dict(zip(head, (cell.strip() for cell in cells)))
+            raise WrongText(str(file), line, f"expected {len(head)} columns, found {len(cells)}")
+        yield line, dict(zip(head, (cell.strip() for cell in cells)))
+
+
+def _csv_cells(file: str | Path, text: str, delimiter: str) -> Iterator[tuple[int, list[str]]]:
+    """The rows that have something in them, each with the line it starts at; a quoted cell may have line feeds."""
+    reader = csv.reader(io.StringIO(text), delimiter=delimiter, strict=True)
+    line = 1
+    try:
+        for cells in reader:
+            if any(cells):
+                yield line, cells
+            line = reader.line_num + 1
+    except csv.Error as error:
+        raise WrongText(str(file), line, f"expected CSV: {error}") from None
 
 
 def import_graphml(file: str | Path, label: str | None = None, keys: Keys = Keys()) -> Imported:

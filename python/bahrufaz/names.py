@@ -8,7 +8,11 @@ from typing import Iterable
 
 from .records import MAX_LABEL, MAX_NODES, Constraint
 from .text import Line, aligned, alike, lines_of, read_text, spelled
+from .whole import whole
 from .wrong import WrongName, WrongText
+
+
+NAMES_HEAD = "# names of labels and nodes of one store"
 
 
 class Naming:
@@ -29,6 +33,8 @@ class Naming:
         return isinstance(other, Naming) and self._names == other._names
 
     def add(self, number: int, name: str) -> None:
+        if not isinstance(name, str):
+            raise WrongName(f"the name of a {self.what} is a text, and {name!r} is none")
         if not name or any("\ud800" <= character <= "\udfff" for character in name):
             raise WrongName("a name has at least one character, all of them Unicode")
         if name in self._numbers:
@@ -49,8 +55,8 @@ class Naming:
 
     def number(self, named: str | int) -> int:
         """The number of what is given by its name, or by its number already."""
-        if isinstance(named, int):
-            return named
+        if not isinstance(named, str):
+            return whole(f"the number of a {self.what}", named)
         if named not in self._numbers:
             hint = alike(named, self._numbers)
             raise WrongName(f"no {self.what} is named {spelled(named)}{hint}")
@@ -80,8 +86,24 @@ class Names:
 
 
 def names_path(store: str | Path) -> Path:
-    """Where the names of a store stand: beside it."""
-    return Path(store).with_suffix(".names")
+    """Where the names of a store stand: world.names for world.store, and draft.bin.names for draft.bin."""
+    path = Path(store)
+    return path.with_suffix(".names") if path.suffix == ".store" else path.with_name(f"{path.name}.names")
+
+
+def are_names_of(names: Path, store: Path) -> bool:
+    """Whether both files are there, and the one has the names of the other."""
+    return names.is_file() and store.is_file() and _sum(store.read_bytes()).encode() in names.read_bytes()
+
+
+def other_owner(store: str | Path) -> Path | None:
+    """The other store whose names stand where those of this one are to stand, if there is such a store.
+
+    world and world.store share world.names.
+    """
+    path = Path(store)
+    other = path.with_suffix("") if path.suffix == ".store" else path.with_name(f"{path.name}.store")
+    return other if are_names_of(names_path(store), other) else None
 
 
 def names_text(names: Names, store: bytes) -> str:
@@ -91,7 +113,7 @@ def names_text(names: Names, store: bytes) -> str:
         for naming in (names.labels, names.nodes)
         for number, name in naming.items()
     ]
-    head = ["# names of labels and nodes of one store", f"store sha256 {_sum(store)}", ""]
+    head = [NAMES_HEAD, f"store sha256 {_sum(store)}", ""]
     return "\n".join(head + aligned(rows)) + "\n"
 
 

@@ -43,16 +43,12 @@ def sentence(call: str, number: int) -> str:
 
 
 class Refused(Exception):
-    """A call gave back a number other than 0."""
+    """A call gave back a number other than 0; detail says where, and advice what to do about it."""
 
     def __init__(self, call: str, number: int, detail: str = ""):
         self.call = call
         self.number = number
         self.sentence = sentence(call, number)
         self.detail = detail
+        self.advice = _ADVICE.get(number, "")
         super().__init__(f"refused with {number}: {self.sentence}")
-
-    @property
-    def advice(self) -> str:
-        """What to do about it."""
-        return _ADVICE.get(self.number, "")

@@ -21,6 +21,7 @@ from .records import (
     pattern_of,
 )
 from .text import Line, aligned, lines_of, read_text, spelled
+from .whole import within
 from .wrong import WrongGraph, WrongName, WrongText
 
 
@@ -44,12 +45,11 @@ class Pattern:
         self, name: str | None, label: str | int, conditions: Iterable[tuple[str, int]] = ()
     ) -> int:
         """Adds a node, as add_node("place", "locale", [("=", 2)]), and returns its number."""
-        node = PatternNode(label, tuple(Condition(*one) for one in conditions))
+        if not isinstance(label, str):
+            label = within("the number of a label", label, 1, MAX_LABEL)
+        node = PatternNode(label, tuple(map(_checked, conditions)))
         if len(node.conditions) > MAX_CONDITIONS:
             raise WrongGraph(f"a pattern node has at most {MAX_CONDITIONS} conditions")
-        for operator, constant in node.conditions:
-            if operator not in OPERATORS or not MIN_VALUE <= constant <= MAX_VALUE:
-                raise WrongGraph(f"'value {operator} {constant}' is no condition")
         if len(self.nodes) == MAX_PATTERN_NODES:
             raise WrongGraph(f"a pattern has at most {MAX_PATTERN_NODES} nodes")
         if name is not None:
@@ -153,6 +153,16 @@ class Pattern:
     def write(self, path: str | Path, names: Names | None = None) -> None:
         """Writes a .pat file, whole or not at all."""
         write_whole(path, self.text(names))
+
+
+def _checked(condition: tuple[str, int]) -> Condition:
+    """A condition that a pattern can hold."""
+    if not isinstance(condition, tuple) or len(condition) != 2:
+        raise WrongGraph(f"conditions are a list of pairs, as [('=', 2)], and {condition!r} is no pair")
+    operator, constant = condition
+    if operator not in OPERATORS:
+        raise WrongGraph(f"a condition has one of the signs {' '.join(OPERATORS)}, and not {operator!r}")
+    return Condition(operator, within("a constant", constant, MIN_VALUE, MAX_VALUE))
 
 
 def conditions_text(conditions: Sequence[Condition]) -> str:

@@ -93,6 +93,11 @@ def draft_of(store: bytes) -> bytes:
     return _header((*words[1:4], 0, 0)) + store[_HEADER.size : words[9]]
 
 
+def is_draft(store: bytes) -> bool:
+    """Whether a store whose header is right has neither groups nor entries."""
+    return _HEADER.unpack_from(store)[4:6] == (0, 0)
+
+
 def sections_of(store: bytes) -> Sections:
     """The records of a store whose header is right."""
     words = _HEADER.unpack_from(store)

@@ -5,19 +5,31 @@ from __future__ import annotations
 from pathlib import Path
 
 from . import library
-from .files import write_whole
-from .names import Names, names_path, names_text, read_names
-from .records import Constraint, Sections, sections_of
+from .files import write_together
+from .names import Names, are_names_of, names_path, names_text, read_names
+from .numbers import Refused
+from .records import Constraint, Sections, is_draft, sections_of
 
 
 class Store:
-    """The bytes of a store or draft whose header is right, with names for labels and nodes."""
+    """The bytes of a store or draft whose header is right, with names for labels and nodes.
+
+    Nothing says yet that its index belongs to its graph: admit() does.
+    """
 
     def __init__(self, data: bytes, names: Names | None = None):
         library.check_header(data)
-        self.data = data
+        self._take(data, names)
+
+    def _take(self, data: bytes, names: Names | None) -> None:
+        self._data = data
         self.names = names or Names()
         self._sections: Sections | None = None
+
+    @property
+    def data(self) -> bytes:
+        """The bytes: they are never changed, so what was admitted stays so."""
+        return self._data
 
     @classmethod
     def read(cls, path: str | Path, names: Names | None = None) -> Store:
@@ -28,16 +40,20 @@ class Store:
         return cls(data, names)
 
     def write(self, path: str | Path) -> Path | None:
-        """Writes the bytes, and the names beside them if there are any; returns where those are."""
-        beside = names_path(path) if self.names else None
-        if beside:
-            write_whole(beside, names_text(self.names, self.data))
-        write_whole(path, self.data)
-        return beside
+        """Writes the bytes, and the names beside them if there are any; returns where those are.
 
-    def admit(self) -> None:
-        """Returns if the index is the one that building gives; Refused where it is not."""
-        library.admit(self.data)
+        Both files are replaced or none is; the names of a store that is written over go with it.
+        """
+        beside = names_path(path)
+        if self.names:
+            write_together({path: self.data, beside: names_text(self.names, self.data)})
+            return beside
+        write_together({path: self.data, beside: None} if are_names_of(beside, Path(path)) else {path: self.data})
+        return None
+
+    def admit(self) -> AdmittedStore:
+        """The store as one to list from, if its index is the one that building gives; else Refused."""
+        return AdmittedStore(self.data, self.names)
 
     @property
     def sections(self) -> Sections:
@@ -60,3 +76,27 @@ class Store:
                     most, key = group.count, group.key
                 longest[group.constraint] = (keys + 1, most, key)
         return longest
+
+
+class AdmittedStore(Store):
+    """A store whose index is the one that building gives: what is listed from it are the matches of its graph."""
+
+    def __init__(self, data: bytes, names: Names | None = None):
+        super().__init__(data, names)
+        try:
+            library.admit(data)
+        except Refused as refused:
+            if refused.number == 5 and is_draft(data):
+                refused.detail = "this is a draft: it has no index yet"
+                refused.advice = "build it: bahrufaz build DRAFT -o STORE"
+            raise
+
+    @classmethod
+    def built(cls, draft: bytes, names: Names | None = None) -> AdmittedStore:
+        """The store of a draft; what building gives is admitted."""
+        store = cls.__new__(cls)
+        store._take(library.build(draft), names)
+        return store
+
+    def admit(self) -> AdmittedStore:
+        return self

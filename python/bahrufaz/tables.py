@@ -9,8 +9,10 @@ from typing import Any, Iterable, Sequence
 
 from .calls import Listing, Plan
 from .numbers import Refused
-from .store import Store
+from .store import AdmittedStore, Store
 from .text import text_width
+
+UNCHECKED = "unchecked: whether this store is admitted was not asked, so matches may be missing"
 
 
 def table(head: Sequence[str], rows: Iterable[Sequence[object]]) -> str:
@@ -39,6 +41,11 @@ def _in_column(cell: str, width: int, right: bool) -> str:
 def counted(count: int, one: str, many: str) -> str:
     """So many of something, in words."""
     return f"1 {one}" if count == 1 else f"{count:,} {many}"
+
+
+def marked(store: Store, text: str) -> str:
+    """An answer about a store; the first line says so where it is not admitted."""
+    return text if isinstance(store, AdmittedStore) else f"{UNCHECKED}\n{text}"
 
 
 def refusal_json(refused: Refused) -> str:
@@ -111,9 +118,9 @@ def listing_text(listing: Listing, ids: bool) -> str:
         f"{matches}; {counted(listing.entries, 'entry', 'entries')} read of at most {listing.bound:,} "
         f"({listing.node_entries:,} for nodes, {listing.edge_entries:,} for edges)"
     )
-    if not listing.matches:
-        return told
-    return f"{told}\n\n{table(listing.pattern.node_names(), listing_rows(listing, ids))}"
+    if listing.matches:
+        told += f"\n\n{table(listing.pattern.node_names(), listing_rows(listing, ids))}"
+    return marked(listing.store, told)
 
 
 def listing_csv(listing: Listing, ids: bool) -> str:
@@ -128,6 +135,7 @@ def listing_json(listing: Listing, ids: bool) -> str:
     return _json(
         {
             "answer": 0,
+            "admitted": listing.admitted,
             "matches": listing.matches,
             "node_entries": listing.node_entries,
             "edge_entries": listing.edge_entries,
@@ -181,13 +189,14 @@ def store_text(store: Store) -> str:
     parts.append(table(head, _constraints(store)))
     if not store.sections.groups:
         parts.append("There is no index: this is a draft, or no key has a list.")
-    return "\n\n".join(parts)
+    return marked(store, "\n\n".join(parts))
 
 
 def store_json(store: Store) -> str:
     nodes, edges, constraints, groups, entries = map(len, store.sections)
     return _json(
         {
+            "admitted": isinstance(store, AdmittedStore),
             "bytes": len(store.data),
             "nodes": nodes,
             "edges": edges,

@@ -137,7 +137,7 @@ def read_text(path: str | Path) -> str:
     """A text file: UTF-8, with or without a byte order mark, any line ends."""
     data = Path(path).read_bytes()
     try:
-        return data.decode("utf-8-sig").replace("\r\n", "\n")
+        return data.decode("utf-8-sig").replace("\r\n", "\n").replace("\r", "\n")
     except UnicodeDecodeError as error:
         line = data[: error.start].count(b"\n") + 1
         raise WrongText(str(path), line, "expected UTF-8 text, found other bytes") from None

@@ -3,7 +3,7 @@
 import struct
 import unittest
 
-from bahrufaz import Graph, Pattern, Refused, Store, library, plan
+from bahrufaz import AdmittedStore, Graph, Pattern, Refused, Store, Wrong, WrongGraph, library, list_unchecked, plan
 from bahrufaz import list as list_matches
 
 from .worlds import (
@@ -14,6 +14,7 @@ from .worlds import (
     random_pattern,
     random_world,
     small_world,
+    stale_world,
     whole_search,
 )
 
@@ -89,15 +90,82 @@ class SmallWorld(unittest.TestCase):
         self.assertEqual((refused.number, refused.sentence), (8, "T above 65,536"))
 
     def test_admitting(self):
-        self.store.admit()
+        again = Store(self.store.data).admit()
+        self.assertIsInstance(again, AdmittedStore)
+        self.assertIs(again.admit(), again)
         draft = self.refusal(Store(small_world().draft()).admit)
-        self.assertEqual((draft.number, draft.sentence[:5]), (5, "index"))
+        self.assertEqual((draft.number, draft.detail), (5, "this is a draft: it has no index yet"))
         damaged = bytearray(self.store.data)
         damaged[-4] ^= 1
-        self.assertEqual(self.refusal(Store(bytes(damaged)).admit).number, 5)
+        other = self.refusal(Store(bytes(damaged)).admit)
+        self.assertEqual((other.number, other.sentence[:5], other.detail), (5, "index", ""))
         damaged[368 + 8 * 6 + 5] = 1  # a last byte of the entry that field 5 has its screen from
-        listing = self.refusal(lambda: list_matches(Store(bytes(damaged)), pattern_a()))
+        listing = self.refusal(lambda: list_unchecked(Store(bytes(damaged)), pattern_a()))
         self.assertEqual((listing.number, listing.sentence), (5, "a list read is unfit"))
+
+    def test_an_empty_draft_is_its_own_store(self):
+        graph = Graph()
+        self.assertEqual(Store(graph.draft()).admit().data, graph.build().data)
+
+    def test_listing_takes_an_admitted_store(self):
+        store = Store(self.store.data)
+        with self.assertRaisesRegex(Wrong, "this store is not admitted, so matches may be missing: list\\(store.admit"):
+            list_matches(store, pattern_a())
+        self.assertFalse(list_unchecked(store, pattern_a()).admitted)
+        self.assertTrue(list_matches(store.admit(), pattern_a()).admitted)
+        with self.assertRaises(AttributeError):
+            self.store.data = b""
+
+    def test_an_index_left_behind_lacks_matches_and_is_not_admitted(self):
+        stale = Store(stale_world())
+        self.assertEqual(list_unchecked(stale, pattern_a()).rows, [])
+        self.assertEqual(list_matches(self.store, pattern_a()).rows, [(1, 3, 5, 4)])
+        self.assertEqual(self.refusal(stale.admit).number, 5)
+
+    def test_a_listing_has_the_length_of_its_matches_and_iterates_over_them(self):
+        told = list_matches(self.store, pattern_of([1], []))
+        self.assertEqual(len(told), 2)
+        self.assertEqual(list(told), [{"0": "english"}, {"0": "german"}])
+        self.assertEqual(told[-1], {"0": "german"})
+        none = list_matches(self.store, pattern_of([1], [], {0: [(">", 1), ("<", 2)]}))
+        self.assertEqual((len(none), list(none)), (0, []))
+        steps = plan(self.store, pattern_a())
+        self.assertEqual((len(steps), [row.figure for row in steps][:3], steps[-1].figure), (7, [2, 2, 8], 8))
+
+    def test_what_is_no_store_or_pattern_is_told(self):
+        for work, message in [
+            (lambda: plan(small_world(), pattern_a()), "plan takes a store first, and not a Graph: build\\(\\) gives"),
+            (lambda: list_matches("world.store", pattern_a()), "list takes a store first, and not a str: Store.read"),
+            (lambda: plan(self.store, "a.pat"), "plan takes a pattern second, and not a str: Pattern.read gives one"),
+        ]:
+            with self.assertRaisesRegex(Wrong, message):
+                work()
+
+    def test_numbers_that_are_not_whole_are_refused_as_they_are_given(self):
+        world = small_world()
+        for number in (2.5, True, "2", None):
+            for work in (
+                lambda: world.add_node("new", "field", number),
+                lambda: world.add_label("new", number) if number is not None else world.add_constraint([], 1, None),
+                lambda: world.add_constraint([], "field", number),
+                lambda: pattern_a().add_node("new", "field", [("=", number)]),
+            ):
+                with self.assertRaisesRegex(WrongGraph, "is a whole number, and .* is none"):
+                    work()
+        for work in (lambda: world.add_edge(True, 5), lambda: pattern_a().add_node("new", 2.0)):
+            with self.assertRaisesRegex(WrongGraph, "is a whole number, and .* is none"):
+                work()
+        self.assertEqual(world.draft(), small_world().draft())
+        self.assertNotIn("new", world.names.labels)
+
+    def test_lists_that_are_none_are_refused(self):
+        with self.assertRaisesRegex(WrongGraph, "given as a list: \\['locale'\\]"):
+            small_world().add_constraint("locale", "format", 1)
+        for conditions in ("=2", ("=", 2)):
+            with self.assertRaisesRegex(WrongGraph, "conditions are a list of pairs"):
+                pattern_a().add_node("new", "field", conditions)
+        with self.assertRaisesRegex(WrongGraph, "one of the signs = < > <= >=, and not '=='"):
+            pattern_a().add_node("new", "field", [("==", 2)])
 
     def test_a_list_that_is_too_long_is_named(self):
         world = small_world()
@@ -127,8 +195,7 @@ class RandomWorlds(unittest.TestCase):
         answered = found = 0
         for seed in range(300):
             world, pattern = random_world(seed), random_pattern(1_000 + seed)
-            store = world.build()
-            store.admit()
+            store = Store(world.build().data, world.names).admit()
             try:
                 told = list_matches(store, pattern)
             except Refused as refused:

@@ -1,7 +1,5 @@
 """The command: what it prints, what it leaves behind, and its exit status."""
 
-import contextlib
-import io
 import json
 import os
 import shutil
@@ -13,44 +11,12 @@ from pathlib import Path
 from unittest import mock
 
 from bahrufaz import Graph, Pattern, library
-from bahrufaz.command import main
 
-from .worlds import CHECKOUT, EXAMPLES, PATTERN_A, SMALL, pattern_a, small_world
+from .commands import CommandCase
+from .worlds import CHECKOUT, EXAMPLES, SMALL, pattern_a, small_world
 
 
-class Commands(unittest.TestCase):
-    def setUp(self):
-        self.directory = tempfile.TemporaryDirectory()
-        self.addCleanup(self.directory.cleanup)
-        self.addCleanup(os.chdir, os.getcwd())
-        os.chdir(self.directory.name)
-        shutil.copy(SMALL, "world.feed")
-        shutil.copy(PATTERN_A, "a.pat")
-
-    def run_command(self, *arguments: str) -> tuple[int, str, str]:
-        out, err = io.StringIO(), io.StringIO()
-        with contextlib.redirect_stdout(out), contextlib.redirect_stderr(err):
-            try:
-                status = main(arguments)
-            except SystemExit as left:
-                status = left.code
-        return status, out.getvalue(), err.getvalue()
-
-    def answer(self, *arguments: str) -> str:
-        status, out, err = self.run_command(*arguments)
-        self.assertEqual((status, err), (0, ""), arguments)
-        return out
-
-    def assert_status(self, status: int, message: str, *arguments: str):
-        told, out, err = self.run_command(*arguments)
-        self.assertEqual(told, status, (out, err))
-        self.assertIn(message, err)
-        self.assertEqual(out, "")
-
-    def built(self) -> str:
-        self.answer("build", "world.feed", "-o", "world.store")
-        return "world.store"
-
+class Commands(CommandCase):
     def test_build_and_admit(self):
         out = self.answer("build", "world.feed", "-o", "world.store")
         self.assertEqual(
@@ -63,10 +29,11 @@ class Commands(unittest.TestCase):
     def test_build_from_a_draft(self):
         self.answer("build", "--draft", "world.feed", "-o", "draft.bin")
         self.assertEqual(Path("draft.bin").read_bytes(), small_world().draft())
-        out = self.answer("build", "draft.bin", "-o", "again.store")
-        self.assertNotIn("names", out)
+        self.assertIn("; names in again.names\n", self.answer("build", "draft.bin", "-o", "again.store"))
         self.assertEqual(Path("again.store").read_bytes(), small_world().build().data)
-        self.assert_status(1, "refused with 5: index differs from the one built", "admit", "draft.bin")
+        self.assertIn("german  comma   weight  feeding\n", self.answer("list", "again.store", "a.pat"))
+        self.assertNotIn("names", self.answer("build", "--no-names", "draft.bin", "-o", "bare.store"))
+        self.assert_status(2, "draft.bin is none", "build", "--draft", "draft.bin", "-o", "x.store")
 
     def test_a_refused_build_leaves_nothing(self):
         text = Path("world.feed").read_text().replace("-> format at most 1", "-> format at most 1 # too few")
@@ -159,8 +126,6 @@ class Commands(unittest.TestCase):
         self.assertIn("  2  format -> field   4      2        1  point\n", out)
         told = json.loads(self.answer("show", "--json", "world.store"))
         self.assertEqual(told["constraints"][2]["longest"], 1)
-        self.answer("build", "--draft", "world.feed", "-o", "draft.bin")
-        self.assertIn("There is no index", self.answer("show", "draft.bin"))
 
     def test_text(self):
         self.answer("text", self.built(), "-o", "again.feed")
@@ -224,7 +189,7 @@ class Commands(unittest.TestCase):
         self.assert_status(2, "the following arguments are required", "plan", "world.feed")
         self.assert_status(2, "required: COMMAND")
         self.assert_status(2, "invalid choice", "guess")
-        self.assert_status(2, "-o names a file of bytes", "build", "world.feed", "-o", "x.feed")
+        self.assert_status(2, "x.feed: a store is to be written, and .feed is the text", "build", "world.feed", "-o", "x.feed")
         self.assert_status(2, "expected a whole number, found '-1'", "list", "--room", "-1", "world.feed", "a.pat")
         self.assert_status(2, "a.pat is a text, and a graph is asked for", "build", "a.pat", "-o", "a.store")
         self.assert_status(2, "world.feed is a text, and a store", "admit", "world.feed")

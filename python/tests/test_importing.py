@@ -55,6 +55,25 @@ class Csv(InDirectory):
         self.assertEqual(Graph.of_text(graph.text()).draft(), graph.draft())
         self.assertIn('node "17"', graph.text())
 
+    def test_line_feeds_in_a_cell(self):
+        nodes = self.file("n.csv", 'name,label\n"two\nlines",x\nb,x\n')
+        edges = self.file("e.csv", 'from,to\n"two\nlines",b\nb,none\n')
+        with self.assertRaisesRegex(WrongText, "e.csv:4: no node is named none"):
+            import_csv(edges, nodes)
+        graph = import_csv(self.file("e.csv", 'from,to\r\n"two\r\nlines",b\r\n'), nodes).graph
+        self.assertEqual(graph.names.nodes.name(0), "two\nlines")
+        self.assertEqual(graph.edges, {(0, 1)})
+        self.assertIn('node "two\\nlines"', graph.text())
+
+    def test_an_empty_file_and_an_open_quote(self):
+        self.assert_error("e.csv:1: expected a first line with the columns from, to", "")
+        self.assert_error("e.csv:3: expected CSV: unexpected end of data", 'from,to\na,b\n"a,b\nb,a\n')
+        self.assert_error("e.csv:2: expected CSV: ',' expected after '\"'", 'from,to\n"a"x,b\n')
+
+    def test_values_are_whole_numbers_as_they_are_typed(self):
+        for value in ("1_000", "2.0", "٣", "+ 1", "0x10"):
+            self.assert_error(f"n.csv:2: a value is a whole number, and {value} is none", "from,to\n", f"name,label,value\na,x,{value}\n")
+
     def assert_error(self, message: str, edges: str, nodes: str = "name,label,value\na,x,1\nb,x,1\n"):
         with self.assertRaises(WrongText) as caught:
             import_csv(self.file("e.csv", edges), self.file("n.csv", nodes))

@@ -137,7 +137,7 @@ class FeedErrors(unittest.TestCase):
     def test_limits_of_a_store(self):
         lines = "".join(f"constraint -> {label} at most 1\n" for label in range(1, 34))
         with self.assertRaisesRegex(WrongText, "^w:33: a store has at most 32 constraints$"):
-            Graph.of_text(lines, "w")
+            Graph.of_text(lines + "no nodes", "w")
         graph = Graph()
         graph.nodes = [(1, 0)] * 65_535
         with self.assertRaisesRegex(WrongGraph, "at most 65,535 nodes"):
@@ -146,10 +146,36 @@ class FeedErrors(unittest.TestCase):
         with self.assertRaisesRegex(WrongGraph, "at most 262,144 edges"):
             graph.add_edge(0, 1)
 
+    def test_a_graph_without_nodes_has_to_say_so(self):
+        told = "expected a node line: a graph without nodes says so, by the line 'no nodes'"
+        for text, line in {"": 1, "# nothing\n\n": 1, "label x\nlabel y\n": 2}.items():
+            with self.assertRaises(WrongText) as caught:
+                Graph.of_text(text, "w.feed")
+            self.assertEqual(str(caught.exception), f"w.feed:{line}: {told}")
+        self.assertEqual(Graph.of_text("no nodes").draft(), Graph().draft())
+        self.assertEqual(Graph().text(), "no nodes\n")
+        with self.assertRaisesRegex(WrongText, "w:2: expected no node line beside 'no nodes'"):
+            Graph.of_text("node a 1\nno nodes", "w")
+        with self.assertRaisesRegex(WrongText, "w:1: expected nodes, found 'edges'"):
+            Graph.of_text("no edges", "w")
+
+    def test_any_line_ends(self):
+        text = (EXAMPLES / "small" / "world.feed").read_text(encoding="utf-8")
+        with tempfile.TemporaryDirectory() as directory:
+            path = Path(directory) / "w.feed"
+            for ends in ("\n", "\r\n", "\r"):
+                path.write_bytes(text.replace("\n", ends).encode("utf-8"))
+                self.assertEqual(Graph.read(path).draft(), small_world().draft(), repr(ends))
+            path.write_bytes(b"label a\rlabel b\rnode n c\r")
+            with self.assertRaisesRegex(WrongText, "w.feed:3: no label is named c"):
+                Graph.read(path)
+
     def test_names_that_cannot_be_written(self):
         for name in ("", "\ud800"):
             with self.assertRaisesRegex(WrongName, "a name has at least one character, all of them Unicode"):
                 Graph().add_node(name, 1)
+        with self.assertRaisesRegex(WrongName, "the name of a node is a text, and 17 is none"):
+            Graph().add_node(17, 1)
 
     def test_other_bytes(self):
         with tempfile.TemporaryDirectory() as directory:

@@ -1,4 +1,4 @@
-# Which fields stand on a screen that only another screen opens?
+# Which fields stand on a screen that another screen opens? That the menu does not open it too, a pattern cannot ask.
 
 node market locale
 node menu   menu

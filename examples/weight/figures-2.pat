@@ -1,0 +1,16 @@
+# Which further figures are worked out from those of figures-1.pat, and in which reports do they stand?
+
+node market  locale value = 2
+node sign    format value = 44
+node field   field
+node screen  screen value = 11
+node figure  figure
+node further figure
+node report  report
+
+edge market  -> sign
+edge field   -> sign
+edge screen  -> field
+edge field   -> figure
+edge figure  -> further
+edge further -> report
