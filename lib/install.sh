@@ -2,6 +2,7 @@
 # install.sh VERSION PREFIX [DESTDIR]: puts headers, libraries and pkg-config files in place, and the command with its
 # man page and completions. They will be found below PREFIX; DESTDIR stands before it while a package is made.
 set -eu
+umask 022
 cd "$(dirname "$0")/.."
 version=$1
 prefix=$(realpath -m -- "$2")
@@ -22,9 +23,14 @@ for name in bahrufaz bahrufaz-lent; do
 done
 
 # the command: its package, compiled since nobody may write there later, its man page and completions
-install -D -m 755 share/command.sh "$to/bin/bahrufaz"
-rm -rf "$to/share/bahrufaz"
-(cd python && find bahrufaz -type f ! -path '*/__pycache__/*' -exec install -D -m 644 {} "$to/share/bahrufaz/{}" \;)
-python3 -m compileall -q -s "$before" "$to/share/bahrufaz"
-python3 share/pages.py "$to/share"
-echo "install: the command, headers, libraries and pkg-config files are in $to"
+if command -v python3 >/dev/null; then
+    install -D -m 755 share/command.sh "$to/bin/bahrufaz"
+    rm -rf "$to/share/bahrufaz"
+    (cd python && find bahrufaz -type f ! -path '*/__pycache__/*' -exec install -D -m 644 {} "$to/share/bahrufaz/{}" \;)
+    python3 -m compileall -q -s "$before" "$to/share/bahrufaz"
+    python3 share/pages.py "$to/share"
+else
+    echo "install: no python3 here, so the command is left out"
+fi
+echo "install: headers, libraries and what goes with them are in $to"
+[ -n "$before" ] || echo "install: programs find the library once ldconfig has run, or by LD_LIBRARY_PATH=$prefix/lib"

@@ -180,11 +180,10 @@ impl StoreBytes<'_> {
         let mut words = FIRST_ROOM_WORDS;
         loop {
             let mut room = zeros(words)?;
-            match self.list_unadmitted_into(pattern, &mut work, &mut room) {
-                Err(error) if error.number() == Some(Number::Room) && words < MOST_ROOM_WORDS => {
-                    words *= 8;
-                }
-                told => return told.map(|told| Listing::of_room(told, room, pattern.nodes())),
+            let told = self.list_unadmitted_into(pattern, &mut work, &mut room);
+            match (told.map_err(|error| error.number()), larger(words)) {
+                (Err(Some(Number::Room)), Some(more)) => words = more,
+                _ => return told.map(|told| Listing::of_room(told, room, pattern.nodes())),
             }
         }
     }
@@ -221,10 +220,33 @@ fn of_listing(error: Error) -> Error {
     }
 }
 
+/// The room that is tried after one of so many words was too short.
+fn larger(words: usize) -> Option<usize> {
+    (words < MOST_ROOM_WORDS).then(|| words.saturating_mul(8).min(MOST_ROOM_WORDS))
+}
+
 /// A room of words: its length follows from what is lent, so that there may be no memory for it.
 fn zeros(words: usize) -> Result<Vec<u32>, Error> {
     let mut room = Vec::new();
     room.try_reserve_exact(words).map_err(|_| Error::Memory(words.saturating_mul(4)))?;
     room.resize(words, 0);
     Ok(room)
+}
+
+#[cfg(test)]
+mod tests {
+    use super::*;
+
+    #[test]
+    fn rooms_grow_up_to_the_most_and_no_further() {
+        let rooms: Vec<usize> =
+            std::iter::successors(Some(FIRST_ROOM_WORDS), |&words| larger(words)).collect();
+        assert_eq!(rooms.last(), Some(&MOST_ROOM_WORDS));
+        assert!(rooms.windows(2).all(|pair| pair[0] < pair[1]), "{rooms:?}");
+    }
+
+    #[test]
+    fn a_room_that_no_memory_holds_is_told() {
+        assert_eq!(zeros(usize::MAX / 8), Err(Error::Memory(usize::MAX / 8 * 4)));
+    }
 }
