@@ -100,10 +100,14 @@ enum bahrufaz_plan_word {
     BAHRUFAZ_PLAN_CHOSEN_2 = 6,
     BAHRUFAZ_PLAN_FIGURE = 7 /* N times the figures of the chosen nodes */
 };
-enum { BAHRUFAZ_PLAN_ROW = 8, BAHRUFAZ_PLAN_NONE = 255 };
+enum {
+    BAHRUFAZ_PLAN_ROW = 8,    /* words of a row */
+    BAHRUFAZ_PLAN_ROOM = 512, /* words that are always enough for all rows */
+    BAHRUFAZ_PLAN_NONE = 255  /* stands for a chosen node that there is not */
+};
 
-/* Writes the rows of the plan, p + q of 8 words each, into the room: 512 words are always enough.
- * Node rows stand in plan order, then edge rows in pattern order. Results: T. Stack: under 64 KiB. */
+/* Writes the rows of the plan, p + q of them, into the room: node rows in plan order, then edge rows in
+ * pattern order. Results: T. Stack: under 64 KiB. */
 uint32_t bahrufaz_plan(const uint8_t *store, size_t store_length, const uint8_t *pattern,
                        size_t pattern_length, uint32_t *room, size_t room_length, uint32_t results[8]);
 

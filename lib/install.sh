@@ -24,7 +24,7 @@ done
 
 # the command: its package, compiled since nobody may write there later, its man page and completions
 if command -v python3 >/dev/null; then
-    install -D -m 755 share/command.sh "$to/bin/bahrufaz"
+    install -D -m 755 share/command.py "$to/bin/bahrufaz"
     rm -rf "$to/share/bahrufaz"
     (cd python && find bahrufaz -type f ! -path '*/__pycache__/*' -exec install -D -m 644 {} "$to/share/bahrufaz/{}" \;)
     python3 -m compileall -q -s "$before" "$to/share/bahrufaz"

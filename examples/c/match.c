@@ -10,7 +10,7 @@
 
 #include "lent.h"
 
-enum { PLAN_WORDS = 512, ROOM_WORDS = 1 << 20 };
+enum { ROOM_WORDS = 1 << 20 };
 
 struct bytes {
     uint8_t *at;
@@ -78,10 +78,11 @@ int main(int count, char **arguments) {
         fprintf(stderr, "match: %s cannot be read\n", arguments[store.at ? 2 : 1]);
         return 2;
     }
-    uint32_t rows[PLAN_WORDS] = {0}, results[8];
+    uint32_t rows[BAHRUFAZ_PLAN_ROOM] = {0}, results[8];
     int number = lent_admit(store.at, store.length);
     if (!number)
-        number = lent_plan(store.at, store.length, pattern.at, pattern.length, rows, PLAN_WORDS, results);
+        number = lent_plan(store.at, store.length, pattern.at, pattern.length, rows,
+                           BAHRUFAZ_PLAN_ROOM, results);
     int status = number ? refuse(number) : list(store, pattern, results[0]);
     free(store.at);
     free(pattern.at);

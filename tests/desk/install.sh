@@ -67,12 +67,24 @@ for compile in "${CC:-cc} -std=c99 -x c" "${CXX:-c++} -std=c++11 -x c++"; do
     [ "$(LD_LIBRARY_PATH="$usr/lib" "$scratch/use")" = "$version" ] || fail "the header says another version, or lent_admit another number"
 done
 
-# the command, from elsewhere: its own package and library, its man page
-(cd "$scratch" && env -u BAHRUFAZ_LIB -u PYTHONPATH "$usr/bin/bahrufaz" --version >log)
-[ "$(cat "$scratch/log")" = "bahrufaz $version
-library: $(readlink -f "$usr")/lib/libbahrufaz.so.$version" ] || fail "the command says $(cat "$scratch/log")"
+# the command, from elsewhere: its own package and library, and nothing of the directory one is in; its man page
+mkdir "$scratch/elsewhere"
+echo 'raise SystemExit("taken from the directory one is in")' | tee "$scratch/elsewhere/json.py" >"$scratch/elsewhere/bahrufaz.py"
+told=$(cd "$scratch/elsewhere" && env -u BAHRUFAZ_LIB -u PYTHONPATH "$usr/bin/bahrufaz" --version 2>&1)
+[ "$told" = "bahrufaz $version
+library: $(readlink -f "$usr")/lib/libbahrufaz.so.$version" ] || fail "the command says $told"
 quietly "$usr/bin/bahrufaz" list examples/small/world.feed examples/small/a.pat
 grep -q "^\.TH BAHRUFAZ 1 \"\" \"bahrufaz $version\"" "$usr/share/man/man1/bahrufaz.1" || fail "the man page is of another version"
+
+# the command's files and the example program in C: the same match; a draft, which is not admitted, is refused
+quietly "$usr/bin/bahrufaz" build examples/small/world.feed -o "$scratch/world.store"
+quietly "$usr/bin/bahrufaz" build --draft examples/small/world.feed -o "$scratch/draft.store"
+quietly "$usr/bin/bahrufaz" pattern examples/small/a.pat "$scratch/world.store" -o "$scratch/a.bin"
+told=$("$scratch/static/match" "$scratch/world.store" "$scratch/a.bin")
+[ "$told" = "answer 0 matches 1 nodes 5 edges 3 bound 38
+1 3 5 4" ] || fail "match prints $told"
+! "$scratch/static/match" "$scratch/draft.store" "$scratch/a.bin" >"$scratch/log" 2>&1 || fail "match lists from a draft"
+grep -q 'refused with 5' "$scratch/log" || fail "match says of a draft: $(cat "$scratch/log")"
 
 quietly make --no-print-directory install PREFIX=/opt/bahrufaz DESTDIR="$scratch/package"
 for name in bahrufaz bahrufaz-lent; do

@@ -56,7 +56,7 @@ in_bash "" bahrufaz list --room ""
 
 if command -v fish >/dev/null; then
     in_fish() {
-        same "fish: $2" "$1" "$(cd "$examples" && HOME="$scratch" fish --no-config -c "source $scratch/fish/vendor_completions.d/bahrufaz.fish; complete -C '$2'" | cut -f1 | sort | tr '\n' ' ')"
+        same "fish: $2" "$1" "$(cd "$examples" && HOME="$scratch" fish -c "source $scratch/fish/vendor_completions.d/bahrufaz.fish; complete -C '$2'" | cut -f1 | sort | tr '\n' ' ')"
     }
     in_fish "list " "bahrufaz li"
     in_fish "--count --csv " "bahrufaz list --c"
