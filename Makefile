@@ -40,18 +40,21 @@ lib: $(LIB)
 $(LIB) &: lib/here.sh crates.txt $(shell find crates -type f ! -path '*/must-fail/*')
 	lib/here.sh
 
-# header, libraries for this processor and a pkg-config file
-VERSION = 0.1.0
+# the command, its man page and completions; headers, libraries for this processor and pkg-config files
+VERSION := $(shell cat VERSION)
 PREFIX = /usr/local
 install: lib
+	$(MAKE) --no-print-directory -C examples/c lent
 	lib/install.sh $(VERSION) "$(PREFIX)" "$(DESTDIR)"
 
-# what stands before the library: the command and its text forms, the commands that the documents show, Rust, C, installing
+# what stands before the library: the command and its text forms, the commands that the documents show, Rust, C, installing,
+# man page and completions
 desk: lib
 	cd python && python3 -m unittest discover --quiet --start-directory tests --top-level-directory .
 	cargo test --offline --quiet --manifest-path rust/Cargo.toml
 	$(MAKE) --no-print-directory -C examples/c check
 	tests/desk/install.sh
+	tests/desk/pages.sh
 
 ifeq ($(strip $(CALLS)),)
 serve boundary bench:

@@ -57,8 +57,5 @@ else
     RATTLE_HOME="$ours" rt staticlib bahrufaz
     archive_of_module
 fi
-# a program may have the old one open: the new one takes its place at once
-"${CC:-gcc}" -shared -Wl,-soname,libbahrufaz.so -Wl,-z,defs -Wl,--whole-archive target/lib/libbahrufaz.a \
-    -Wl,--no-whole-archive -o target/lib/libbahrufaz.so.new
-mv target/lib/libbahrufaz.so.new target/lib/libbahrufaz.so
+lib/shared.sh
 echo "lib: target/lib has libbahrufaz.a and libbahrufaz.so for $processor"

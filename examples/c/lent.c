@@ -171,26 +171,11 @@ int lent_list(const uint8_t *store, size_t store_length, const uint8_t *pattern,
 
 const char *lent_sentence(int number) {
     switch (number) {
-    case BAHRUFAZ_ANSWERED: return "answered";
-    case BAHRUFAZ_HEADER:
-        return "header, count limit, offset or length wrong; building only: also g or e not 0";
-    case BAHRUFAZ_RECORD: return "a node or edge record breaks its rule";
-    case BAHRUFAZ_CONSTRAINT: return "a constraint breaks its rule";
-    case BAHRUFAZ_LONG_LIST: return "a list of the graph exceeds its N";
-    case BAHRUFAZ_UNFIT:
-        return "admitting: index differs from the one built, or building would answer 11; "
-               "listing: a list read is unfit";
-    case BAHRUFAZ_PATTERN: return "pattern breaks its rules";
-    case BAHRUFAZ_UNCOVERED: return "a pattern node or edge is not covered";
-    case BAHRUFAZ_BOUND: return "T above 65,536";
-    case BAHRUFAZ_WORK: return "working room below 2T words";
-    case BAHRUFAZ_ROOM: return "room for result too short";
-    case BAHRUFAZ_INDEX: return "built index needs too many groups or entries";
     case LENT_NULL: return "a pointer is null";
     case LENT_LENGTH: return "a run goes beyond the end of all addresses";
     case LENT_ALIGNMENT: return "words do not stand at a multiple of 4";
     case LENT_OVERLAP: return "a room overlaps something else that is lent";
     case LENT_STACK: return "too little stack";
-    default: return "no such number";
+    default: return bahrufaz_sentence((uint32_t)number);
     }
 }

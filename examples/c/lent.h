@@ -1,11 +1,18 @@
 /* The calls of Bahrufaz, with what its header asks of a caller tested before each is made.
  *
  * Each function returns the call's own number, or one of the negative ones below, and then nothing was
- * called and nothing changed. A call that asks for more stack than is left runs on a thread of its own. */
+ * called and nothing changed. A call that asks for more stack than is left runs on a thread of its own.
+ *
+ * 'make install' puts it beside the library: #include <bahrufaz/lent.h>, and link with what
+ * 'pkg-config --cflags --libs bahrufaz-lent' says. */
 #ifndef LENT_H
 #define LENT_H
 
 #include <bahrufaz.h>
+
+#ifdef __cplusplus
+extern "C" {
+#endif
 
 enum lent_misuse {
     LENT_NULL = -1,      /* a pointer is null, also where the length is 0 */
@@ -26,5 +33,9 @@ int lent_list(const uint8_t *store, size_t store_length, const uint8_t *pattern,
 
 /* What a number says, or what was wrong about a call. */
 const char *lent_sentence(int number);
+
+#ifdef __cplusplus
+}
+#endif
 
 #endif

@@ -1,7 +1,8 @@
 /* match STORE PATTERN: the matches of a pattern in a store, from two files of bytes.
  *
- * 'bahrufaz build' and 'bahrufaz pattern' make such files. It plans first, lends the working room that
- * the bound asks for, and prints the number, the four results, and a line of node ids for each match.
+ * 'bahrufaz build' and 'bahrufaz pattern' make such files. It admits the store first, since one that is
+ * not admitted may lack matches. It plans, lends the working room that the bound asks for, and prints the
+ * number, the four results, and a line of node ids for each match.
  * Exit status: 0 answered, 1 refused, 2 wrong use. */
 #include <inttypes.h>
 #include <stdio.h>
@@ -9,7 +10,7 @@
 
 #include "lent.h"
 
-enum { PLAN_WORDS = 512, ROOM_WORDS = 1 << 20 };
+enum { ROOM_WORDS = 1 << 20 };
 
 struct bytes {
     uint8_t *at;
@@ -55,9 +56,11 @@ static int list(struct bytes store, struct bytes pattern, uint32_t bound) {
     }
     if (!status) {
         size_t width = pattern.at[4]; /* p, which is at most 8 in a pattern that is not refused */
-        printf("answer 0 matches %" PRIu32 " nodes %" PRIu32 " edges %" PRIu32 " bound %" PRIu32 "\n",
-               results[0], results[1], results[2], results[3]);
-        for (size_t i = 0; i < results[0] * width; i++)
+        uint64_t matches = bahrufaz_matches(results);
+        printf("answer 0 matches %" PRIu64 " nodes %" PRIu32 " edges %" PRIu32 " bound %" PRIu32 "\n",
+               matches, results[BAHRUFAZ_LIST_NODE_ENTRIES], results[BAHRUFAZ_LIST_EDGE_ENTRIES],
+               results[BAHRUFAZ_LIST_BOUND]);
+        for (size_t i = 0; i < matches * width; i++)
             printf("%" PRIu32 "%c", room[i], (i + 1) % width ? ' ' : '\n');
     }
     free(work);
@@ -75,8 +78,11 @@ int main(int count, char **arguments) {
         fprintf(stderr, "match: %s cannot be read\n", arguments[store.at ? 2 : 1]);
         return 2;
     }
-    uint32_t rows[PLAN_WORDS] = {0}, results[8];
-    int number = lent_plan(store.at, store.length, pattern.at, pattern.length, rows, PLAN_WORDS, results);
+    uint32_t rows[BAHRUFAZ_PLAN_ROOM] = {0}, results[8];
+    int number = lent_admit(store.at, store.length);
+    if (!number)
+        number = lent_plan(store.at, store.length, pattern.at, pattern.length, rows,
+                           BAHRUFAZ_PLAN_ROOM, results);
     int status = number ? refuse(number) : list(store, pattern, results[0]);
     free(store.at);
     free(pattern.at);

@@ -57,6 +57,18 @@ static uint8_t draft[200], store[440], pattern[94];
 static uint32_t work[80], room[80], results[8];
 static uint32_t *volatile nothing; /* null, and no compiler may know it */
 
+/* The row of edge 1 of pattern A, field to format: the field is fetched from the format. */
+static void test_plan_row(const uint32_t row[BAHRUFAZ_PLAN_ROW]) {
+    EXPECT(row[BAHRUFAZ_PLAN_KIND], 1);
+    EXPECT(row[BAHRUFAZ_PLAN_NUMBER], 1);
+    EXPECT(row[BAHRUFAZ_PLAN_FETCHED], 2);
+    EXPECT(row[BAHRUFAZ_PLAN_CONSTRAINT], 2);
+    EXPECT(row[BAHRUFAZ_PLAN_CHOSEN_0], 1);
+    EXPECT(row[BAHRUFAZ_PLAN_CHOSEN_1], BAHRUFAZ_PLAN_NONE);
+    EXPECT(row[BAHRUFAZ_PLAN_CHOSEN_2], BAHRUFAZ_PLAN_NONE);
+    EXPECT(row[BAHRUFAZ_PLAN_FIGURE], 8);
+}
+
 static void test_small_world(void) {
     EXPECT(small_draft(draft), 200);
     EXPECT(pattern_a(pattern), 94);
@@ -65,11 +77,12 @@ static void test_small_world(void) {
     EXPECT(lent_admit(store, 432), 0);
     EXPECT(lent_plan(store, 432, pattern, 94, room, 80, results), 0);
     EXPECT(results[0], 38);
+    test_plan_row(room + 5 * BAHRUFAZ_PLAN_ROW);
     EXPECT(lent_list(store, 432, pattern, 94, work, 76, room, 4, results), 0);
-    EXPECT(results[0], 1);
-    EXPECT(results[1], 5);
-    EXPECT(results[2], 3);
-    EXPECT(results[3], 38);
+    EXPECT(bahrufaz_matches(results), 1);
+    EXPECT(results[BAHRUFAZ_LIST_NODE_ENTRIES], 5);
+    EXPECT(results[BAHRUFAZ_LIST_EDGE_ENTRIES], 3);
+    EXPECT(results[BAHRUFAZ_LIST_BOUND], 38);
     static const uint32_t row[] = {1, 3, 5, 4};
     EXPECT(memcmp(room, row, sizeof row), 0);
 }
@@ -92,7 +105,29 @@ static void test_refusals(void) {
     EXPECT(lent_build(other, 200, store, 432, results), 3);
     other[152 + 8] = 1;
     EXPECT(lent_build(other, 200, store, 432, results), 4);
-    EXPECT(strcmp(lent_sentence(7), "a pattern node or edge is not covered"), 0);
+}
+
+/* Every number has a sentence of its own, and no other has one. */
+static void test_sentences(void) {
+    const char *none = bahrufaz_sentence(BAHRUFAZ_INDEX + 1);
+    EXPECT(strcmp(none, "no such number"), 0);
+    for (uint32_t number = 0; number <= BAHRUFAZ_INDEX; number++) {
+        EXPECT(strcmp(lent_sentence((int)number), bahrufaz_sentence(number)), 0);
+        for (uint32_t lower = 0; lower < number; lower++)
+            EXPECT(strcmp(bahrufaz_sentence(lower), bahrufaz_sentence(number)) != 0, 1);
+        EXPECT(strcmp(bahrufaz_sentence(number), none) != 0, 1);
+    }
+    for (int misuse = LENT_STACK; misuse <= LENT_NULL; misuse++)
+        EXPECT(strcmp(lent_sentence(misuse), none) != 0, 1);
+    EXPECT(strcmp(bahrufaz_sentence(BAHRUFAZ_UNCOVERED), "a pattern node or edge is not covered"), 0);
+}
+
+/* The upper half of the matches is read from its own word. */
+static void test_matches(void) {
+    uint32_t told[8] = {5};
+    EXPECT(bahrufaz_matches(told) == 5, 1);
+    told[BAHRUFAZ_LIST_MATCHES_UPPER] = 3;
+    EXPECT(bahrufaz_matches(told) == 0x300000005, 1);
 }
 
 /* What is lent wrongly is told before any call: the rooms stay as they are. */
@@ -134,6 +169,8 @@ static void test_little_stack(void) {
 int main(void) {
     test_small_world();
     test_refusals();
+    test_sentences();
+    test_matches();
     EXPECT(lent_build(draft, 200, store, 440, results), 0);
     test_misuse();
     test_little_stack();

@@ -52,16 +52,22 @@ def checkout_library() -> Path:
     return Path(__file__).resolve().parents[2] / "target" / "lib" / NAME
 
 
+def carried_library() -> Path:
+    """Where a wheel carries the library: beside the files of this package."""
+    return Path(__file__).resolve().with_name(NAME)
+
+
 def find() -> str:
-    """The library to load: BAHRUFAZ_LIB, else the checkout's, else the system's."""
+    """The library to load: BAHRUFAZ_LIB, else the wheel's or the checkout's, else the system's."""
     named = os.environ.get("BAHRUFAZ_LIB")
     if named:
         path = Path(named) / NAME if os.path.isdir(named) else Path(named)
         if path.exists():
             return str(path.resolve())
         raise LibraryMissing(f"BAHRUFAZ_LIB names {named}, and there is no library: set it to a {NAME}")
-    if checkout_library().exists():
-        return str(checkout_library())
+    for path in (carried_library(), checkout_library()):
+        if path.exists():
+            return str(path)
     found = ctypes.util.find_library("bahrufaz")
     if found:
         return found

@@ -78,7 +78,7 @@ def agrees(shown: list[str], printed: list[str]) -> bool:
 
 
 _SHARED = ("crates", "crates.txt", "target")
-_COPIED = ("Makefile", "bin", "docs", "examples", "include", "lib", "python", "rust")
+_COPIED = ("Makefile", "VERSION", "bin", "docs", "examples", "include", "lib", "python", "rust", "share")
 
 
 def _copy(entry: Path, to: Path) -> None:

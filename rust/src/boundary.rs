@@ -38,3 +38,11 @@ extern "C" {
 pub const BUILD_STACK: usize = 4 << 20;
 /// Bytes of stack that planning and listing take at most.
 pub const PLAN_STACK: usize = 64 << 10;
+/// Always enough words for the rows of a plan.
+pub const PLAN_WORDS: usize = 512;
+/// Words of a plan row.
+pub const PLAN_ROW: usize = 8;
+/// What stands for a chosen node that there is not.
+pub const NO_CHOSEN: u32 = 255;
+/// The result of listing that has the upper 32 bits of the matches.
+pub const MATCHES_UPPER: usize = 4;

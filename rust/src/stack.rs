@@ -1,6 +1,8 @@
 //! Stack for the calls: what is left of the thread's own, else a thread with enough.
 
+use crate::error::Error;
 use std::cell::OnceCell;
+use std::panic::resume_unwind;
 use std::thread::{scope, Builder};
 
 /// What a call's caller and the thread itself take beside the call.
@@ -11,18 +13,17 @@ thread_local! {
     static LOWEST: OnceCell<usize> = const { OnceCell::new() };
 }
 
-/// Runs the work with so many bytes of stack.
-///
-/// # Panics
-/// Where there is too little stack left and no thread with enough can be started.
-pub fn with<R: Send>(bytes: usize, work: impl FnOnce() -> R + Send) -> R {
-    if left() >= bytes + MARGIN {
-        return work();
+/// Runs the work with so many bytes of stack, or not at all.
+pub fn with<R: Send>(bytes: usize, work: impl FnOnce() -> R + Send) -> Result<R, Error> {
+    let needed = bytes.saturating_add(MARGIN);
+    if left() >= needed {
+        return Ok(work());
     }
     scope(|scope| {
-        let thread = Builder::new().stack_size(bytes + MARGIN).spawn_scoped(scope, work);
-        let thread = thread.unwrap_or_else(|error| panic!("no thread with {bytes} bytes: {error}"));
-        thread.join().expect("the library does not panic")
+        let thread = Builder::new().stack_size(needed).spawn_scoped(scope, work);
+        let thread = thread.map_err(|_| Error::Stack(needed))?;
+        // the library does not panic; if the work did, it goes on as it would have here
+        Ok(thread.join().unwrap_or_else(|panic| resume_unwind(panic)))
     })
 }
 
@@ -85,13 +86,19 @@ mod tests {
         let own = |stack: usize, bytes: usize| {
             let thread = Builder::new().stack_size(stack).spawn(move || {
                 let outer = std::thread::current().id();
-                with(bytes, move || std::thread::current().id() == outer)
+                with(bytes, move || std::thread::current().id() == outer).expect("a stack")
             });
             thread.expect("a thread").join().expect("an answer")
         };
         assert!(own(16 << 20, 6 << 20));
         assert!(own(1 << 20, 64 << 10));
         assert!(!own(1 << 20, 64 << 20));
+    }
+
+    #[test]
+    fn a_stack_that_no_thread_can_have_is_told() {
+        let told = with(1 << 60, || ());
+        assert_eq!(told, Err(Error::Stack((1 << 60) + MARGIN)));
     }
 
     #[test]
