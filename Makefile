@@ -1,5 +1,6 @@
-# make run: the small world built, planned and listed. make test: everything that must hold; its last line is rt ci's own.
-.PHONY: run test reading lib install desk here serve boundary compared bench
+# make run: the small world built, planned and listed. make quick: what a day's edits may have broken.
+# make test: everything that must hold; its last line is rt ci's own.
+.PHONY: run test quick kit telling reading lib install desk near here serve boundary compared fuzz bench
 
 # how many crates, and must-fail edits, are proved at a time: a level ends with its slowest, so more at a time than processors leaves these idle for less of it
 export RT_JOBS ?= 6
@@ -13,8 +14,11 @@ ifneq ($(shell uname -m),x86_64)
 SERVED += BAHRUFAZ_EMULATED=1
 endif
 
-run:
-	@rt check run_tour run_panel
+# runs a step and tells a line for each crate and test; the whole output goes to target/gate
+TELL = tests/gate/tell.py
+
+run: kit
+	@$(TELL) programs --crates run_tour run_panel -- rt check run_tour run_panel
 	@mkdir -p target/run && cp crates/run_tour/data/* target/run
 	@echo; echo "The small world's draft is built into a store, and pattern A is planned (crates/run_tour):"
 	@cd target/run && ../../run.sh run_tour
@@ -22,23 +26,35 @@ run:
 	@cd target/run && ../../run.sh run_panel
 
 test:
-	rt fmt --check
-	tests/contracts.sh
-	$(MAKE) --no-print-directory -j2 reading lib
-	$(MAKE) --no-print-directory boundary
-	$(MAKE) --no-print-directory desk
-	rt ci
+	@tests/gate/gate.sh
 
-# the second reading's own tests; they need no library, so they run beside its proof
+# the loop of a day's work: the crates that changed and those above them, and the second reading; no edits, no library
+quick: kit
+	@$(TELL) format -- rt fmt --check
+	@$(TELL) contracts -- tests/contracts.sh
+	@$(TELL) telling -- $(MAKE) --no-print-directory telling
+	@$(TELL) crates --crates --then reading -- rt check
+	@$(TELL) reading -- $(MAKE) --no-print-directory reading
+
+# says so where another kit is at hand than the one that the project was proved with
+kit:
+	@command -v rt >/dev/null || { echo "kit: no Rattle kit here: the command rt is not found"; exit 1; }
+	@rt version | cmp -s - KIT || echo "kit: proved with $$(cat KIT), and here is another: $$(rt version)"
+
+# the tests of the gate itself: what it tells, and when its last line comes
+telling:
+	python3 -m unittest discover --verbose --start-directory tests/gate
+
+# the second reading's own tests; they need no library
 reading:
-	env -u MAKEFLAGS -u MFLAGS cargo test --release --offline --quiet --manifest-path tests/Cargo.toml
+	cargo test --release --offline --manifest-path tests/Cargo.toml
 
 # the library; include/bahrufaz.h says what it has: for x86-64 in target/staticlib, for the processor at hand in target/lib
 LIB = target/staticlib/libbahrufaz.a target/lib/libbahrufaz.a target/lib/libbahrufaz.so
 lib: $(LIB)
 
-$(LIB) &: lib/here.sh crates.txt $(shell find crates -type f ! -path '*/must-fail/*')
-	lib/here.sh
+$(LIB) &: lib/here.sh crates.txt $(shell find crates -type f ! -path '*/must-fail/*') | kit
+	@$(TELL) library --crates bahrufaz -- lib/here.sh
 
 # the command, its man page and completions; headers, libraries for this processor and pkg-config files
 VERSION := $(shell cat VERSION)

@@ -1,0 +1,38 @@
+#!/bin/sh
+# The gate: everything that must hold. Crates are proved once, from nothing, by rt ci; the library is made of what that
+# proved, and stays in target/lib. The very last line is rt ci's own, and comes only if everything else passed too.
+set -eu
+cd "$(dirname "$0")/../.."
+# a make or cargo below takes no orders that were meant for the make above
+unset MAKEFLAGS MFLAGS
+tell=tests/gate/tell.py
+began=$(date +%s)
+
+# rt ci removes target/ when it starts, so the logs come there last
+GATE_LOGS=$(mktemp -d)
+export GATE_LOGS
+chmod 755 "$GATE_LOGS"
+trap 'mkdir -p target && rm -rf target/gate && mv "$GATE_LOGS" target/gate' EXIT
+
+make --no-print-directory kit
+$tell format -- rt fmt --check
+$tell contracts -- tests/contracts.sh
+$tell telling -- make --no-print-directory telling
+
+$tell reading -- make --no-print-directory reading &
+reading=$!
+# a shell lets what runs beside it go on after an interrupt
+trap 'kill "$reading"; exit 130' INT TERM
+proved=0
+$tell proofs --crates --edits --then library boundary desk -- rt ci || proved=$?
+wait "$reading"
+[ "$proved" = 0 ] || exit "$proved"
+
+make --no-print-directory lib
+$tell boundary -- make --no-print-directory boundary
+$tell desk -- make --no-print-directory desk
+
+took=$(($(date +%s) - began))
+echo "gate: $took" >>"$GATE_LOGS/seconds.txt"
+echo "gate: passed, $((took / 60)) min $((took % 60)) s; the whole output is in target/gate"
+tail -n 1 "$GATE_LOGS/proofs.log" | grep -x '[0-9]* passed, 0 failed'
