@@ -73,7 +73,7 @@ desk: lib
 	tests/desk/pages.sh
 
 ifeq ($(strip $(CALLS)),)
-serve boundary bench:
+serve boundary fuzz bench:
 	@echo "$@: no call is wired in yet (CALLS is empty)"
 else
 # the program that makes the library's calls for the tests: for x86-64, under an emulator elsewhere
@@ -91,24 +91,28 @@ boundary:
 	else echo "boundary: NOT RUN, no program for x86-64 can be made here"; fi
 
 compared: serve
-	$(SERVED) cargo test --release --offline --quiet --manifest-path tests/Cargo.toml --test boundary -- --nocapture $(TEST)
+	$(SERVED) cargo test --release --offline --manifest-path tests/Cargo.toml --test boundary -- --nocapture $(TEST)
 
-# on a processor that the kit makes no archive for: the library for it against the second reading, too
-ifneq ($(shell uname -m),x86_64)
-desk: here
-here: lib
-	bench/here.sh $(SERVE)-here $(CALLS)
-	BAHRUFAZ_SERVE="$(CURDIR)/$(SERVE)-here" BAHRUFAZ_CALLS="$(CALLS)" \
-		cargo test --release --offline --quiet --manifest-path tests/Cargo.toml --test boundary
-endif
-
-# times of the library's calls and of the second reading; on a processor that the archive is not for, of the same module compiled for it
+# the same program for the processor at hand: on x86-64 that one, elsewhere of the library that is compiled for it
 ifeq ($(shell uname -m),x86_64)
-bench: serve
-	$(SERVED) cargo run --release --offline --quiet --manifest-path bench/Cargo.toml
+NEAR = $(SERVE)
+near: serve
 else
-bench: lib
-	bench/here.sh $(SERVE)-here $(CALLS)
-	BAHRUFAZ_SERVE="$(CURDIR)/$(SERVE)-here" BAHRUFAZ_CALLS="$(CALLS)" cargo run --release --offline --quiet --manifest-path bench/Cargo.toml
+NEAR = $(SERVE)-here
+near: lib
+	bench/here.sh $(NEAR) $(CALLS)
+
+desk: here
+here: near
+	$(NEARLY) cargo test --release --offline --quiet --manifest-path tests/Cargo.toml --test boundary
 endif
+NEARLY = BAHRUFAZ_SERVE="$(CURDIR)/$(NEAR)" BAHRUFAZ_CALLS="$(CALLS)"
+
+# the library against the second reading on fresh seeds, until it is stopped or SECONDS have passed
+fuzz: near
+	@$(NEARLY) cargo run --release --offline --quiet --manifest-path tests/Cargo.toml --bin fuzz -- $(SECONDS)
+
+# times of the library's calls and of the second reading
+bench: near
+	$(NEARLY) cargo run --release --offline --quiet --manifest-path bench/Cargo.toml
 endif
