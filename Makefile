@@ -47,7 +47,7 @@ telling:
 
 # the second reading's own tests; they need no library
 reading:
-	cargo test --release --offline --manifest-path tests/Cargo.toml
+	cargo test --release --offline --manifest-path tests/Cargo.toml --lib --test small_world --test seeds --test large
 
 # the library; include/bahrufaz.h says what it has: for x86-64 in target/staticlib, for the processor at hand in target/lib
 LIB = target/staticlib/libbahrufaz.a target/lib/libbahrufaz.a target/lib/libbahrufaz.so
