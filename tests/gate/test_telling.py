@@ -9,6 +9,7 @@ from pathlib import Path
 
 from estimate import Estimate, expected_items, roughly, spoken
 from tell import Teller
+from times import compared, put_table, table
 
 HERE = Path(__file__).resolve().parent
 
@@ -139,6 +140,31 @@ class Estimating(InRepository):
     def test_times_are_spoken(self):
         self.assertEqual([spoken(59), spoken(61)], ["59 s", "1 min 1 s"])
         self.assertEqual([roughly(3), roughly(41), roughly(200)], ["10 s", "50 s", "3 min"])
+
+
+class Times(InRepository):
+    def logs(self, name, proofs):
+        self.write(f"{name}/proofs.log", proofs)
+        self.write(f"{name}/seconds.txt", "gate: 99\ngate: 75\n")
+        return self.root / name
+
+    def test_a_note_has_the_whole_and_the_crates_that_changed(self):
+        before = self.logs("before", "rt: words proved (11 s)\n")
+        edits = "".join(f"rt: must-fail words/{edit}: refused, as it must be ({edit} s)\n" for edit in (3, 4))
+        after = self.logs("after", "rt: words proved (9 s)\nrt: plan proved (5 s)\n" + edits)
+        self.assertEqual(
+            compared(before, after, ["words", "plan"])[2:],
+            ["| whole `make test` | 1 min 15 s |  | 1 min 15 s |  |", "| words | 11 s |  | 9 s | 7 s |", "| plan |  |  | 5 s |  |"],
+        )
+
+    def test_a_table_takes_the_place_of_the_one_before(self):
+        page = ["# Title", "", "| crate | seconds |", "|---|---|", "| old | 1 |", "", "Text."]
+        new = table(["crate", "seconds"], [["new", 2]])
+        self.assertEqual(put_table(page, new), ["# Title", "", "| crate | seconds |", "| --- | --- |", "| new | 2 |", "", "Text."])
+
+    def test_a_table_that_the_page_has_not_yet_comes_first(self):
+        new = table(["step", "seconds"], [["proofs", 2]])
+        self.assertEqual(put_table(["# Title", "", "Text."], new), ["# Title", "", *new, "", "Text."])
 
 
 FAKE_RT = """#!/bin/sh
