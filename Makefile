@@ -53,7 +53,8 @@ reading:
 LIB = target/staticlib/libbahrufaz.a target/lib/libbahrufaz.a target/lib/libbahrufaz.so
 lib: $(LIB)
 
-$(LIB) &: lib/here.sh crates.txt $(shell find crates -type f ! -path '*/must-fail/*') | kit
+$(LIB) &: lib/here.sh crates.txt $(shell find crates -type f ! -path '*/must-fail/*')
+	@$(MAKE) --no-print-directory kit
 	@$(TELL) library --crates bahrufaz -- lib/here.sh
 
 # the command, its man page and completions; headers, libraries for this processor and pkg-config files
