@@ -41,9 +41,10 @@ kit:
 	@command -v rt >/dev/null || { echo "kit: no Rattle kit here: the command rt is not found"; exit 1; }
 	@rt version | cmp -s - KIT || echo "kit: proved with $$(cat KIT), and here is another: $$(rt version)"
 
-# the tests of the gate itself: what it tells, and when its last line comes
+# the tests of the gate itself: what it tells, when its last line comes, and what its checks of the documents find
 telling:
 	python3 -m unittest discover --verbose --start-directory tests/gate
+	python3 -m unittest discover --verbose --start-directory tests/pages
 
 # the second reading's own tests; they need no library
 reading:

@@ -7,7 +7,7 @@ cd "$(dirname "$0")/.."
 made=$(mktemp)
 trap 'rm -f "$made"' EXIT
 for page in CONTRACTS LAWS; do
-    python3 "tests/$(echo $page | tr A-Z a-z).py" >"$made"
+    python3 "tests/pages/$(echo $page | tr A-Z a-z).py" >"$made"
     if [ "${1:-}" = --write ]; then
         cat "$made" >"docs/$page.md"
     elif ! diff "docs/$page.md" "$made"; then
@@ -15,4 +15,4 @@ for page in CONTRACTS LAWS; do
         exit 1
     fi
 done
-python3 tests/names.py
+python3 tests/pages/names.py

@@ -4,7 +4,7 @@
 import re
 from pathlib import Path
 
-ROOT = Path(__file__).resolve().parents[1]
+ROOT = Path(__file__).resolve().parents[2]
 NAMED = re.compile(r"^ *(?:unfoldable +|abbrev +)*pub +(?:(?:unfoldable|abbrev|record|data|ruleset) +)*([^\s:(){}\[\],;|=]+)")
 
 INTRODUCTION = """# The laws there are

@@ -9,7 +9,7 @@ import sys
 from pathlib import Path
 from typing import NamedTuple
 
-ROOT = Path(__file__).resolve().parents[1]
+ROOT = Path(__file__).resolve().parents[2]
 
 INTRODUCTION = """# Every public function, and its contract
 
@@ -48,7 +48,7 @@ def functions_of(file, exported):
     text = file.read_text(encoding="utf-8")
     every = re.findall(r'^ *pub (?:extern "C" )?fn (\w+)', text, re.MULTILINE)
     if every != [found["name"] for found in FUNCTION.finditer(text)]:
-        sys.exit(f"{file.relative_to(ROOT)}: a public function stands in a form that tests/contracts.py cannot read")
+        sys.exit(f"{file.relative_to(ROOT)}: a public function stands in a form that tests/pages/contracts.py cannot read")
     for found in FUNCTION.finditer(text):
         parameters = ", ".join(re.sub(r",\s*$", "", found["parameters"].strip()).split(",\n    "))
         contract = re.findall(r"(requires|ensures) (.*)", found["contract"])

@@ -12,7 +12,7 @@ import sys
 from functools import lru_cache
 from pathlib import Path
 
-ROOT = Path(__file__).resolve().parents[1]
+ROOT = Path(__file__).resolve().parents[2]
 DOCUMENTS = ["PROVING.md", "DEMANDS.md", "EXCEPTIONS.md", "DECISIONS.md"]
 QUOTED = re.compile(r"`([^`\n]+)`")
 PATH = re.compile(r"^([a-z_]+)/([\w+/-]+?)(?:\.(antt|rt|sh|py|edit|[\w-]+))?$")
