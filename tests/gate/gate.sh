@@ -6,6 +6,8 @@ cd "$(dirname "$0")/../.."
 # a make or cargo below takes no orders that were meant for the make above
 unset MAKEFLAGS MFLAGS
 tell=tests/gate/tell.py
+# the steps that need the library
+after="boundary desk"
 began=$(date +%s)
 
 # rt ci removes target/ when it starts, so the logs come there last
@@ -13,6 +15,7 @@ GATE_LOGS=$(mktemp -d)
 export GATE_LOGS
 chmod 755 "$GATE_LOGS"
 trap 'mkdir -p target && rm -rf target/gate && mv "$GATE_LOGS" target/gate' EXIT
+trap 'exit 130' INT TERM
 
 make --no-print-directory kit
 $tell format -- rt fmt --check
@@ -24,15 +27,20 @@ reading=$!
 # a shell lets what runs beside it go on after an interrupt
 trap 'kill "$reading"; exit 130' INT TERM
 proved=0
-$tell proofs --crates --edits --then library boundary desk -- rt ci || proved=$?
+# shellcheck disable=SC2086
+$tell proofs --crates --edits --then library $after -- rt ci || proved=$?
 wait "$reading"
+trap 'exit 130' INT TERM
 [ "$proved" = 0 ] || exit "$proved"
+verdict=$(tail -n 1 "$GATE_LOGS/proofs.log")
+echo "$verdict" | grep -qx '[0-9]* passed, 0 failed' || { echo "gate: FAILED, rt ci ended with '$verdict'"; exit 1; }
 
 make --no-print-directory lib
-$tell boundary -- make --no-print-directory boundary
-$tell desk -- make --no-print-directory desk
+for step in $after; do
+    $tell "$step" -- make --no-print-directory "$step"
+done
 
 took=$(($(date +%s) - began))
 echo "gate: $took" >>"$GATE_LOGS/seconds.txt"
 echo "gate: passed, $((took / 60)) min $((took % 60)) s; the whole output is in target/gate"
-tail -n 1 "$GATE_LOGS/proofs.log" | grep -x '[0-9]* passed, 0 failed'
+echo "$verdict"

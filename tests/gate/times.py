@@ -17,6 +17,9 @@ PAGE = ROOT / "docs" / "CHECK-TIMES.md"
 CRATES = ["crate", "seconds", "its edits", "code", "definitions and laws (specs/)", "proofs"]
 STEPS = ["step", "seconds", "what it does"]
 WORDS = {
+    "format": "the layout of the code",
+    "contracts": "contracts, and the pages made from the code",
+    "telling": "the gate's own tests",
     "reading": "the second reading's own tests, beside the proofs",
     "proofs": "`rt ci`: every crate, every must-fail edit, every program",
     "library": "the archive and the libraries, of what was proved",
@@ -67,8 +70,7 @@ def crate_table(logs):
 
 
 def step_table(logs):
-    steps = steps_in(logs)
-    return table(STEPS, [[step, steps[step], told] for step, told in WORDS.items()])
+    return table(STEPS, [[step, seconds, WORDS.get(step, "")] for step, seconds in steps_in(logs).items()])
 
 
 def put_table(lines, new):
