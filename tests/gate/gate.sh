@@ -25,7 +25,7 @@ $tell telling -- make --no-print-directory telling
 $tell reading -- make --no-print-directory reading &
 reading=$!
 # a shell lets what runs beside it go on after an interrupt
-trap 'kill "$reading"; exit 130' INT TERM
+trap 'kill "$reading" 2>/dev/null || true; exit 130' INT TERM
 proved=0
 # shellcheck disable=SC2086
 $tell proofs --crates --edits --then library $after -- rt ci || proved=$?

@@ -22,6 +22,7 @@ from events import ARCHIVED, UNCHANGED, event_of
 ROOT = Path(__file__).resolve().parents[2]
 LOGS = Path(os.environ.get("GATE_LOGS", ROOT / "target" / "gate"))
 WIDEST = 300  # characters of a line that says why
+STOPPED = 130  # the status of what an interrupt ended
 
 
 class Teller:
@@ -88,6 +89,9 @@ class Teller:
             known = f" ({self.unchanged} crates unchanged since they were proved)" if self.unchanged else ""
             self.say(f"{self.step}: passed, {took}{known}")
             return
+        if status == STOPPED:
+            self.say(f"{self.step}: stopped, {took}; the output so far is in target/gate/{self.step}.log")
+            return
         for line in self.since[-40:]:
             self.say(why(line))
         self.say(f"{self.step}: FAILED, {took}; the whole output is in target/gate/{self.step}.log")
@@ -138,7 +142,7 @@ def main():
     try:
         status = run(command, teller, LOGS / f"{wanted.step}.log")
     except KeyboardInterrupt:
-        status = 130
+        status = STOPPED
     teller.end(status)
     if status == 0:
         with open(LOGS / "seconds.txt", "a", encoding="utf-8") as kept:

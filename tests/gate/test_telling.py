@@ -2,6 +2,7 @@
 
 import os
 import shutil
+import signal
 import subprocess
 import tempfile
 import unittest
@@ -176,6 +177,7 @@ ci)
     mkdir target
     echo 'rt: words proved (1 s)'
     [ "$FAILS" != proofs ] || { echo '1 passed, 1 failed'; exit 1; }
+    [ "$FAILS" != nothing-but-waits ] || sleep 60
     echo '2 passed, 0 failed'
     ;;
 esac
@@ -193,33 +195,52 @@ FAKE_CONTRACTS = """#!/bin/sh
 class LastLine(InRepository):
     """The gate over commands that do nothing, one of which may fail."""
 
-    def gate(self, fails):
+    def start(self, fails):
         shutil.copytree(HERE, self.root / "tests" / "gate", ignore=shutil.ignore_patterns("__pycache__"))
         self.write("bin/rt", FAKE_RT, 0o755)
         self.write("bin/make", FAKE_MAKE, 0o755)
         self.write("tests/contracts.sh", FAKE_CONTRACTS, 0o755)
         path = f"{self.root / 'bin'}:{os.environ['PATH']}"
-        return subprocess.run(
+        return subprocess.Popen(
             [self.root / "tests/gate/gate.sh"],
             env={**os.environ, "PATH": path, "FAILS": fails},
             stdout=subprocess.PIPE,
             encoding="utf-8",
+            # as a terminal starts it: with a group of its own that an interrupt reaches
+            start_new_session=True,
+            preexec_fn=lambda: signal.signal(signal.SIGINT, signal.SIG_DFL),
         )
 
+    def gate(self, fails):
+        started = self.start(fails)
+        output, _ = started.communicate()
+        return started.returncode, output.splitlines()
+
     def test_it_is_that_of_rt_ci_and_comes_once(self):
-        ended = self.gate("nothing")
-        self.assertEqual(ended.returncode, 0)
-        self.assertEqual([line for line in ended.stdout.splitlines() if "passed, 0 failed" in line], ["2 passed, 0 failed"])
-        self.assertEqual(ended.stdout.splitlines()[-1], "2 passed, 0 failed")
+        status, lines = self.gate("nothing")
+        self.assertEqual(status, 0)
+        self.assertEqual([line for line in lines if "passed, 0 failed" in line], ["2 passed, 0 failed"])
+        self.assertEqual(lines[-1], "2 passed, 0 failed")
         self.assertIn("rt: words proved", (self.root / "target/gate/proofs.log").read_text())
 
     def test_it_does_not_come_where_anything_fails(self):
         for step in ("kit", "format", "contracts", "telling", "reading", "proofs", "lib", "boundary", "desk"):
             with self.subTest(step):
                 shutil.rmtree(self.root / "tests", ignore_errors=True)
-                ended = self.gate(step)
-                self.assertNotEqual(ended.returncode, 0)
-                self.assertNotIn("passed, 0 failed", ended.stdout)
+                status, lines = self.gate(step)
+                self.assertNotEqual(status, 0)
+                self.assertFalse([line for line in lines if "passed, 0 failed" in line])
+
+    def test_it_does_not_come_after_an_interrupt_and_the_logs_stay(self):
+        started = self.start("nothing-but-waits")
+        for line in iter(started.stdout.readline, ""):
+            if "words proved" in line:
+                break
+        os.killpg(started.pid, signal.SIGINT)
+        output, _ = started.communicate(timeout=30)
+        self.assertEqual(started.returncode, 130)
+        self.assertIn("proofs: stopped", output)
+        self.assertIn("rt: words proved", (self.root / "target/gate/proofs.log").read_text())
 
 
 if __name__ == "__main__":
