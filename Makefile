@@ -32,7 +32,6 @@ test:
 quick: kit
 	@$(TELL) format -- rt fmt --check
 	@$(TELL) contracts -- tests/contracts.sh
-	@$(TELL) telling -- $(MAKE) --no-print-directory telling
 	@$(TELL) crates --crates --then reading -- rt check
 	@$(TELL) reading -- $(MAKE) --no-print-directory reading
 
