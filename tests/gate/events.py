@@ -13,6 +13,7 @@ class Event(NamedTuple):
 
 
 UNCHANGED = "unchanged"
+NOT_TRIED = "dependency"  # a crate above one that failed
 
 # in this order: a line is what the first pattern that fits says
 PATTERNS = [
@@ -23,6 +24,7 @@ PATTERNS = [
     ("run", False, re.compile(r"rt: (?P<name>\w+) (?P<told>was not run: .*)")),
     ("run", True, re.compile(r"rt: (?P<name>\w+) (?P<told>ran).* \((?P<seconds>\d+) s\)")),
     ("crate", False, re.compile(r"rt: (?P<name>\w+) (?P<told>NOT PROVED) \(exit \d+, (?P<seconds>\d+) s\)")),
+    ("crate", False, re.compile(r"rt: (?P<name>\w+) NOT PROVED: its (?P<told>dependency) \w+ is not proved")),
     ("crate", False, re.compile(r"rt: (?P<name>\w+) (?P<told>NOT PROVED: .*)")),
     ("edit", True, re.compile(r"rt: must-fail (?P<name>[^ :]+): (?P<told>refused).*\b(?P<seconds>\d+) s\)")),
     ("edit", False, re.compile(r"rt: must-fail (?P<name>[^ :]+): (?P<told>.*)")),

@@ -17,7 +17,7 @@ import time
 from pathlib import Path
 
 from estimate import Estimate, expected_items, roughly, spoken
-from events import ARCHIVED, UNCHANGED, event_of
+from events import ARCHIVED, NOT_TRIED, UNCHANGED, event_of
 
 ROOT = Path(__file__).resolve().parents[2]
 LOGS = Path(os.environ.get("GATE_LOGS", ROOT / "target" / "gate"))
@@ -33,7 +33,7 @@ class Teller:
         self.began = self.last = clock()
         self.seen = {}  # for each kind the names told
         self.since = []  # the lines since the last event
-        self.unchanged = 0
+        self.silent = {UNCHANGED: 0, NOT_TRIED: 0}  # crates that are only counted
         self.following = False  # whether lines go on saying why the last event failed
 
     def take(self, line):
@@ -45,21 +45,19 @@ class Teller:
                 self.since.append(line)
             return
         names = self.seen.setdefault(event.kind, [])
-        if event.name not in names or not event.passed:
+        if event.kind == "test" or event.name not in names or not event.passed:
             names.append(event.name)
             self.tell(event)
         self.since, self.last = [], self.clock()
 
     def tell(self, event):
         self.following = False
-        seconds = event.seconds
-        if event.told == UNCHANGED:
-            self.unchanged += 1
-        elif event.told == ARCHIVED:
-            seconds = round(self.clock() - self.last)
-        self.estimate.done(event.kind, event.name, event.told != UNCHANGED)
-        if event.told != UNCHANGED:
-            self.say(", ".join(filter(None, [self.head(event), seconds_told(seconds), self.left(event)])))
+        self.estimate.done(event.kind, event.name, event.told not in self.silent)
+        if event.told in self.silent:
+            self.silent[event.told] += 1
+            return
+        seconds = round(self.clock() - self.last) if event.told == ARCHIVED else event.seconds
+        self.say(", ".join(filter(None, [self.head(event), seconds_told(seconds), self.left(event)])))
         if not event.passed:
             self.tell_why(event)
 
@@ -86,7 +84,7 @@ class Teller:
         """The last line of the step; where it failed, first what was said since the last event."""
         took = spoken(round(self.clock() - self.began))
         if status == 0:
-            known = f" ({self.unchanged} crates unchanged since they were proved)" if self.unchanged else ""
+            known = f" ({self.silent[UNCHANGED]} crates unchanged since they were proved)" if self.silent[UNCHANGED] else ""
             self.say(f"{self.step}: passed, {took}{known}")
             return
         if status == STOPPED:
@@ -94,7 +92,8 @@ class Teller:
             return
         for line in self.since[-40:]:
             self.say(why(line))
-        self.say(f"{self.step}: FAILED, {took}; the whole output is in target/gate/{self.step}.log")
+        above = f" ({self.silent[NOT_TRIED]} crates above not tried)" if self.silent[NOT_TRIED] else ""
+        self.say(f"{self.step}: FAILED, {took}{above}; the whole output is in target/gate/{self.step}.log")
 
 
 def why(line):

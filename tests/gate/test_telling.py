@@ -85,9 +85,15 @@ class Telling(InRepository):
         self.assertTrue(told[0].startswith("1/3 plan NOT PROVED, 4 s"), told)
         self.assertEqual(told[1:], ["    a.antt:3:1: error: no proof"])
 
-    def test_of_a_crate_above_one_that_failed_the_reason_is_told(self):
-        told = self.tell("rt: show NOT PROVED: its dependency plan is not proved")
-        self.assertTrue(told[0].startswith("1/3 show NOT PROVED: its dependency plan is not proved"), told)
+    def test_crates_above_one_that_failed_are_counted(self):
+        told = self.tell(*[f"rt: {name} NOT PROVED: its dependency words is not proved" for name in ("plan", "show")])
+        self.assertEqual(told, [])
+        self.teller.end(1)
+        self.assertEqual(told, ["proofs: FAILED, 0 s (2 crates above not tried); the whole output is in target/gate/proofs.log"])
+
+    def test_of_another_crate_that_was_not_tried_the_reason_is_told(self):
+        told = self.tell("rt: show NOT PROVED: it has neither src/lib.rt nor src/main.rt")
+        self.assertTrue(told[0].startswith("1/3 show NOT PROVED: it has neither src/lib.rt nor src/main.rt"), told)
 
     def test_of_an_edit_that_failed_what_follows_is_told(self):
         told = self.tell("rt: must-fail plan/other: BAD EDIT: it did not reach the prover (exit 1)", "a.rt:1:1: error: no sense", "rt: FAILED: plan/other")
