@@ -24,13 +24,10 @@ $tell telling -- make --no-print-directory telling
 
 $tell reading -- make --no-print-directory reading &
 reading=$!
-# a shell lets what runs beside it go on after an interrupt
-trap 'kill "$reading" 2>/dev/null || true; exit 130' INT TERM
 proved=0
 # shellcheck disable=SC2086
 $tell proofs --crates --edits --then library $after -- rt ci || proved=$?
 wait "$reading"
-trap 'exit 130' INT TERM
 [ "$proved" = 0 ] || exit "$proved"
 verdict=$(tail -n 1 "$GATE_LOGS/proofs.log")
 echo "$verdict" | grep -qx '[0-9]* passed, 0 failed' || { echo "gate: FAILED, rt ci ended with '$verdict'"; exit 1; }

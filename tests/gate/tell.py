@@ -11,6 +11,7 @@ target/gate/STEP.log (gate.sh has it brought there), and of a failure the lines 
 
 import argparse
 import os
+import signal
 import subprocess
 import sys
 import time
@@ -109,7 +110,7 @@ def seconds_told(seconds):
 def run(command, teller, log):
     """Runs the command, and keeps and tells its output line by line."""
     log.parent.mkdir(parents=True, exist_ok=True)
-    with open(log, "w", encoding="utf-8") as kept, subprocess.Popen(
+    with open(log, "w", encoding="utf-8", buffering=1) as kept, subprocess.Popen(
         command, stdout=subprocess.PIPE, stderr=subprocess.STDOUT, encoding="utf-8", errors="replace"
     ) as process:
         for line in process.stdout:
@@ -134,6 +135,8 @@ def arguments():
 
 def main():
     sys.stdout.reconfigure(errors="replace")
+    # a shell has what runs beside it ignore an interrupt
+    signal.signal(signal.SIGINT, signal.default_int_handler)
     wanted, command = arguments()
     items = [] if wanted.crates is None else expected_items(ROOT, wanted.crates, wanted.edits)
     estimate = Estimate(ROOT, items, wanted.then)

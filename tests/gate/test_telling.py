@@ -191,6 +191,7 @@ esac
 FAKE_MAKE = """#!/bin/sh
 for target; do :; done
 echo "made $target"
+[ "$FAILS-$target" != nothing-but-waits-reading ] || sleep 60
 [ "$FAILS" != "$target" ]
 """
 FAKE_CONTRACTS = """#!/bin/sh
@@ -246,6 +247,7 @@ class LastLine(InRepository):
         output, _ = started.communicate(timeout=30)
         self.assertEqual(started.returncode, 130)
         self.assertIn("proofs: stopped", output)
+        self.assertIn("reading: stopped", output)
         self.assertIn("rt: words proved", (self.root / "target/gate/proofs.log").read_text())
 
 
