@@ -67,8 +67,8 @@ install: lib
 # what stands before the library: the command and its text forms, the commands that the documents show, Rust, C, installing,
 # man page and completions
 desk: lib
-	cd python && python3 -m unittest discover --quiet --start-directory tests --top-level-directory .
-	cargo test --offline --quiet --manifest-path rust/Cargo.toml
+	cd python && python3 -m unittest discover --verbose --start-directory tests --top-level-directory .
+	cargo test --offline --manifest-path rust/Cargo.toml
 	$(MAKE) --no-print-directory -C examples/c check
 	tests/desk/install.sh
 	tests/desk/pages.sh

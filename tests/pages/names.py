@@ -2,7 +2,8 @@
 """The names that the documents give stand where they say.
 
 `crate/File` is a file of crates/crate (in specs/ or proofs/ if no folder is named, or a must-fail edit),
-`crate/File.name` a definition or law in it, `crate::item` a function or type; other paths are those of the checkout. In docs/PROVING.md a bare
+`crate/File.name` a definition or law in it, `crate::item` a function or type; other paths are those of the checkout,
+and are looked for in the first three documents alone, since the last speaks of installed files too. In docs/PROVING.md a bare
 name in such quotes must also occur in one of the crates that its line cites. Prints what does not, and fails if
 something does not.
 """
@@ -14,6 +15,7 @@ from pathlib import Path
 
 ROOT = Path(__file__).resolve().parents[2]
 DOCUMENTS = ["PROVING.md", "DEMANDS.md", "EXCEPTIONS.md", "DECISIONS.md"]
+STATEMENT = re.compile(r"^[a-z_]+(/[A-Z]|::)")
 QUOTED = re.compile(r"`([^`\n]+)`")
 PATH = re.compile(r"^([a-z_]+)/([\w+/-]+?)(?:\.(antt|rt|sh|py|edit|[\w-]+))?$")
 ITEM = re.compile(r"^([a-z_]+)(?:::\w+)*::(\w+)$")
@@ -55,11 +57,12 @@ def crates_in(tokens):
     return [ROOT / "crates" / name for name in sorted(names) if (ROOT / "crates" / name / "src").is_dir()]
 
 
-def missing_in(line, has_names):
+def missing_in(line, document):
     tokens = QUOTED.findall(line)
-    missing = [token for token in tokens if is_there(token) is False]
+    looked_for = [token for token in tokens if document != "DECISIONS.md" or STATEMENT.match(token)]
+    missing = [token for token in looked_for if is_there(token) is False]
     cited = crates_in(token for token in tokens if "/" in token or "::" in token)
-    if has_names and cited:
+    if document == "PROVING.md" and cited:
         bare = [token for token in tokens if NAME.match(token)]
         missing += [token for token in bare if not any(token in words_of(crate) for crate in cited)]
     return missing
@@ -70,7 +73,7 @@ def main():
     for document in DOCUMENTS:
         lines = (ROOT / "docs" / document).read_text(encoding="utf-8").splitlines()
         for number, line in enumerate(lines, 1):
-            for token in missing_in(line, document == "PROVING.md"):
+            for token in missing_in(line, document):
                 print(f"docs/{document}:{number}: `{token}` is not there")
                 failed = True
     return failed

@@ -124,8 +124,11 @@ class Names(Checkout):
             self.assertIs(names.is_there(token), False, token)
 
     def test_a_bare_name_must_stand_in_a_crate_that_its_line_cites(self):
-        self.assertEqual(names.missing_in("`laws/Loops`: `turns`, `twists`, `x + 1`", True), ["twists"])
-        self.assertEqual(names.missing_in("`laws/Loops`: `twists`", False), [])
+        self.assertEqual(names.missing_in("`laws/Loops`: `turns`, `twists`, `x + 1`", "PROVING.md"), ["twists"])
+        self.assertEqual(names.missing_in("`laws/Loops`: `twists`", "DEMANDS.md"), [])
+
+    def test_of_decisions_only_statements_and_items_are_looked_for(self):
+        self.assertEqual(names.missing_in("`plan/plan.h`, `laws/Gone`, `plan::gone`", "DECISIONS.md"), ["laws/Gone", "plan::gone"])
 
 
 if __name__ == "__main__":
