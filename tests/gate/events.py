@@ -29,8 +29,8 @@ PATTERNS = [
     ("edit", True, re.compile(r"rt: must-fail (?P<name>[^ :]+): (?P<told>refused).*\b(?P<seconds>\d+) s\)")),
     ("edit", False, re.compile(r"rt: must-fail (?P<name>[^ :]+): (?P<told>.*)")),
     # cargo's tests, then Python's
-    ("test", True, re.compile(r"test (?P<name>\S+)(?: - .*)? \.\.\. (?P<told>ok|ignored.*)$")),
-    ("test", False, re.compile(r"test (?P<name>\S+)(?: - .*)? \.\.\. (?P<told>FAILED)$")),
+    ("test", True, re.compile(r"test (?P<name>.+?) \.\.\. (?P<told>ok|ignored.*)$")),
+    ("test", False, re.compile(r"test (?P<name>.+?) \.\.\. (?P<told>FAILED)$")),
     ("test", True, re.compile(r"(?P<name>test_\w+) \(.*\.\.\. (?P<told>ok|skipped.*|expected failure)$")),
     ("test", False, re.compile(r"(?P<name>test_\w+) \(.*\.\.\. (?P<told>FAIL|ERROR|unexpected success)$")),
 ]

@@ -111,8 +111,8 @@ class Telling(InRepository):
         self.assertEqual(told, ["proofs: passed, 1 min 1 s (2 crates unchanged since they were proved)"])
 
     def test_each_test_has_a_line(self):
-        told = self.tell("test reading::tests::halves ... ok", "test_empty (tests.test_calls.Calls.test_empty) ... skipped 'no dot'", "test other ... FAILED")
-        self.assertEqual(told, ["proofs: reading::tests::halves ok", "proofs: test_empty skipped 'no dot'", "proofs: other FAILED"])
+        told = self.tell("test src/store.rs - Store::admit (line 3) ... ok", "test_empty (tests.test_calls.Calls.test_empty) ... skipped 'no dot'", "test other ... FAILED")
+        self.assertEqual(told, ["proofs: src/store.rs - Store::admit (line 3) ok", "proofs: test_empty skipped 'no dot'", "proofs: other FAILED"])
 
     def test_what_is_not_run_is_told(self):
         self.assertEqual(self.tell("boundary: NOT RUN, no compiler"), ["    boundary: NOT RUN, no compiler"])
