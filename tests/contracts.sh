@@ -1,23 +1,18 @@
 #!/bin/sh
-# Every public function of a library has its result under contract, and each that other crates can name stands in the table of docs/DEMANDS.md.
-# Of a program nothing can be named from outside. A function with no contract at all has a row in docs/EXCEPTIONS.md that says so.
-# Prints what is missing, and fails if something is.
-cd "$(dirname "$0")/.." || exit 2
-missing=$(
-    for file in crates/*/src/*.rt; do
-        crate=${file#crates/}
-        crate=${crate%%/*}
-        [ -f "crates/$crate/src/lib.rt" ] || continue
-        # name and 1 or 0 for each public function: 1 if its signature is followed by an `ensures`
-        awk '
-            /^pub (extern "C" )?fn / { name = $0; sub(/.*fn /, "", name); sub(/[^A-Za-z0-9_].*/, "", name); told = 0; open = 1 }
-            open && /^ +ensures / { told = 1 }
-            open && (/^\{/ || (/\{$/ && !/^ +(requires|ensures) /)) { print name, told; open = 0 }
-        ' "$file" | while read -r name told; do
-            [ "$told" = 1 ] || grep -q "\`$crate::$name\`.* nothing is promised " docs/EXCEPTIONS.md || echo "$crate::$name has no ensures"
-            case $file in */lib.rt) seen=1 ;; *) grep -q "^pub use [a-z_]*::$name;" "crates/$crate/src/lib.rt" && seen=1 || seen=0 ;; esac
-            [ "$seen" = 0 ] || grep -q "^| \`$crate::$name\` |" docs/DEMANDS.md || echo "$crate::$name is not in docs/DEMANDS.md"
-        done
-    done
-)
-[ -z "$missing" ] || { echo "$missing"; exit 1; }
+# Every public function of a library has its result under contract, the pages made from the code are what the code says,
+# and the names that other documents give stand where they say. Of a program nothing can be named from outside; a function
+# with no contract at all has a row in docs/EXCEPTIONS.md that says so. With --write the pages are written anew.
+set -eu
+cd "$(dirname "$0")/.."
+made=$(mktemp)
+trap 'rm -f "$made"' EXIT
+for page in CONTRACTS LAWS; do
+    python3 "tests/pages/$(echo $page | tr A-Z a-z).py" >"$made"
+    if [ "${1:-}" = --write ]; then
+        cat "$made" >"docs/$page.md"
+    elif ! diff "docs/$page.md" "$made"; then
+        echo "docs/$page.md is not what the code says: tests/contracts.sh --write writes it anew"
+        exit 1
+    fi
+done
+python3 tests/pages/names.py

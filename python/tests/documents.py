@@ -46,8 +46,8 @@ class Command(NamedTuple):
 
 
 def documents() -> list[Path]:
-    """The documents for people: the README, docs/, and those of examples and bindings."""
-    found = [CHECKOUT / "README.md", *(CHECKOUT / "docs").glob("*.md"), *(CHECKOUT / "examples").rglob("*.md")]
+    """The documents for people: those at the top, docs/, and those of examples and bindings."""
+    found = [*CHECKOUT.glob("*.md"), *(CHECKOUT / "docs").rglob("*.md"), *(CHECKOUT / "examples").rglob("*.md")]
     return sorted(found + list((CHECKOUT / "rust").glob("*.md")) + list((CHECKOUT / "python").glob("*.md")))
 
 

@@ -94,6 +94,65 @@ pub fn expected(call: Call, case: &Case) -> Outcome {
     Outcome { number: told[0], results, work, room }
 }
 
+/// How often each number was given.
+pub type Counts = [u64; 12];
+
+/// The first case whose outcomes differ: its place, the library's (none where its program ended
+/// there) and the second reading's.
+#[derive(Debug)]
+pub struct Difference {
+    pub place: usize,
+    pub ours: Option<Outcome>,
+    pub theirs: Outcome,
+}
+
+impl Difference {
+    /// What differs, where it begins, and how to run that one case again.
+    pub fn told(&self, call: Call, test: &str, seed: u64) -> String {
+        let mut lines = vec![format!("{} differs at seed {seed}", call.name())];
+        match &self.ours {
+            None => lines.push("  the library's program ended at this case".to_string()),
+            Some(ours) => lines.extend(self.parts(ours)),
+        }
+        lines.push(format!("again: make boundary TEST={test} CASE_SEED={seed}"));
+        lines.join("\n")
+    }
+
+    fn parts(&self, ours: &Outcome) -> Vec<String> {
+        let theirs = &self.theirs;
+        let mut lines = vec![
+            format!("  the library: {}, {:?}", ours.number, ours.results),
+            format!("  the reading: {}, {:?}", theirs.number, theirs.results),
+        ];
+        let rooms = [("working", &ours.work, &theirs.work), ("result", &ours.room, &theirs.room)];
+        for (name, one, other) in rooms {
+            if let Some(at) = one.iter().zip(other).position(|(one, other)| one != other) {
+                lines.push(format!("  {name} room: byte {at} is {}, not {}", one[at], other[at]));
+            }
+        }
+        lines
+    }
+}
+
+/// Makes a call on these cases and compares whole outcomes; counts the numbers.
+pub fn compare_with(
+    serve: &mut Serve,
+    call: Call,
+    cases: &[Case],
+    counts: &mut Counts,
+) -> Result<(), Difference> {
+    let mut ours = serve.make(call, cases, 1).into_iter();
+    for (place, case) in cases.iter().enumerate() {
+        let theirs = expected(call, case);
+        let ours = ours.next().map(|(outcome, _)| outcome);
+        if ours.as_ref() != Some(&theirs) {
+            return Err(Difference { place, ours, theirs });
+        }
+        counts[theirs.number as usize] += 1;
+    }
+    Ok(())
+}
+
 /// The program that makes the calls, while it runs.
 pub struct Serve {
     child: Child,

@@ -4,7 +4,7 @@
 //! call that `BAHRUFAZ_CALLS` does not name is left out. A difference prints the call, the test and
 //! the seed. To run that one case again: `make boundary TEST=<test> CASE_SEED=<seed>`
 
-use second_reading::boundary::{expected, Call, Outcome, Serve};
+use second_reading::boundary::{compare_with, Call, Counts, Serve};
 use second_reading::worlds::{self, store_of, Case, PANEL_SIZES};
 
 /// How many cases are at the program at one time.
@@ -35,7 +35,7 @@ fn compare(
     first: u64,
     count: u64,
     make: impl Fn(u64) -> Option<Case>,
-) -> Option<[u32; 12]> {
+) -> Option<Counts> {
     if is_left_out(test) {
         return None;
     }
@@ -52,49 +52,22 @@ fn compare(
         Ok(seed) => vec![seed.parse().expect("CASE_SEED is a number")],
         Err(_) => (first..first + count).collect(),
     };
-    let mut counts = [0; 12];
+    let mut counts = Counts::default();
     for seeds in seeds.chunks(BATCH) {
         let (seeds, cases): (Vec<u64>, Vec<Case>) =
             seeds.iter().filter_map(|&seed| Some((seed, make(seed)?))).unzip();
-        let ours = serve.make(call, &cases, 1);
-        for (number, case) in cases.iter().enumerate() {
-            let theirs = expected(call, case);
-            let ours = ours.get(number).map(|(outcome, _)| outcome);
-            if ours != Some(&theirs) {
-                let (call, seed) = (call.name(), seeds[number]);
-                println!("{call}: differs at seed {seed}");
-                tell_difference(ours, &theirs);
-                println!("again: make boundary TEST={test} CASE_SEED={seed}");
-                panic!("{call} differs at seed {seed}");
-            }
-            counts[theirs.number as usize] += 1;
+        if let Err(difference) = compare_with(&mut serve, call, &cases, &mut counts) {
+            panic!("{}", difference.told(call, test, seeds[difference.place]));
         }
     }
     let used = serve.end();
-    println!("{test}: {} {} cases, {used} bytes of stack", call.name(), counts.iter().sum::<u32>());
+    println!("{test}: {} {} cases, {used} bytes of stack", call.name(), counts.iter().sum::<u64>());
     assert!(used <= call.stack(), "{} took {used} bytes of stack", call.name());
     Some(counts)
 }
 
-/// Says what differs, and where it begins.
-fn tell_difference(ours: Option<&Outcome>, theirs: &Outcome) {
-    let Some(ours) = ours else {
-        println!("  the library's program ended at this case");
-        return;
-    };
-    println!("  the library: {}, {:?}", ours.number, ours.results);
-    println!("  the reading: {}, {:?}", theirs.number, theirs.results);
-    for (name, one, other) in
-        [("working", &ours.work, &theirs.work), ("result", &ours.room, &theirs.room)]
-    {
-        if let Some(at) = one.iter().zip(other).position(|(one, other)| one != other) {
-            println!("  {name} room: byte {at} is {}, not {}", one[at], other[at]);
-        }
-    }
-}
-
 /// Tells the counts and asserts that each of these numbers came up, and no other.
-fn assert_counts(test: &str, counts: Option<[u32; 12]>, numbers: &[u32]) {
+fn assert_counts(test: &str, counts: Option<Counts>, numbers: &[u32]) {
     let Some(counts) = counts else { return };
     let told: Vec<String> =
         numbers.iter().map(|&number| format!("{number}: {}", counts[number as usize])).collect();

@@ -74,11 +74,11 @@ fn data(file: &str) -> Vec<u8> {
 
 #[test]
 fn files_of_the_programs() {
-    assert_eq!(data("panel/data/store.bin"), built(&world()));
-    for program in ["cases", "tour"] {
+    assert_eq!(data("run_panel/data/store.bin"), built(&world()));
+    for program in ["run_cases", "run_tour"] {
         assert_eq!(data(&format!("{program}/data/draft.bin")), world().draft());
     }
-    for program in ["panel", "cases", "tour"] {
+    for program in ["run_panel", "run_cases", "run_tour"] {
         assert_eq!(data(&format!("{program}/data/pattern.bin")), pattern_a().bytes());
     }
 }
