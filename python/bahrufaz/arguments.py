@@ -6,6 +6,7 @@ import argparse
 from typing import Callable
 
 from . import __version__, library
+from .text import shortened
 from .wrong import LibraryMissing
 
 
@@ -13,7 +14,8 @@ def parser() -> argparse.ArgumentParser:
     whole = argparse.ArgumentParser(
         prog="bahrufaz",
         description="Lists the matches of a pattern in a graph store, and says beforehand how much it will read.",
-        epilog="Exit status: 0 answered, 1 refused, 2 wrong use. 'bahrufaz COMMAND --help' has an example of each.",
+        epilog="A file named - is standard input, or output after -o. Exit status: 0 answered, 1 refused, 2 wrong use. "
+        "'bahrufaz COMMAND --help' has an example of each.",
     )
     whole.add_argument("--version", action=_Version, nargs=0, help="the version, and which library is loaded")
     commands = whole.add_subparsers(dest="command", title="commands", metavar="COMMAND", required=True)
@@ -41,8 +43,8 @@ class _Version(argparse.Action):
 
 def _count(text: str) -> int:
     """A whole number that is not negative."""
-    if not text.isascii() or not text.isdigit():
-        raise argparse.ArgumentTypeError(f"expected a whole number, found '{text}'")
+    if not text.isascii() or not text.isdigit() or len(text) > 18:
+        raise argparse.ArgumentTypeError(f"expected a whole number, found '{shortened(text)}'")
     return int(text)
 
 
@@ -103,13 +105,35 @@ def _add_plan(command: argparse.ArgumentParser) -> None:
     _add_json(command)
 
 
+def _add_forms(command: argparse.ArgumentParser) -> None:
+    forms = command.add_mutually_exclusive_group()
+    forms.add_argument("--json", action="store_true", help="answer in JSON, refusals too")
+    forms.add_argument("--csv", action="store_true", help="the rows as CSV")
+
+
 def _add_list(command: argparse.ArgumentParser) -> None:
     _add_store(command)
     _add_pattern(command, "+")
-    _add_json(command)
-    command.add_argument("--csv", action="store_true", help="the rows as CSV")
+    _add_forms(command)
     command.add_argument("--ids", action="store_true", help="node ids in place of names")
+    command.add_argument("--limit", type=_count, metavar="N", help="show the first N matches")
     command.add_argument("--count", action="store_true", help="only how many, a line for each of many patterns")
+    _add_unchecked(command)
+    _add_room(command)
+
+
+def _add_compare(command: argparse.ArgumentParser) -> None:
+    _add_store(command)
+    command.add_argument("first", metavar="PATTERN", help="a .pat file, as the list that was")
+    command.add_argument("second", metavar="PATTERN", help="another, as the list that should be")
+    command.add_argument(
+        "--by",
+        action="append",
+        default=[],
+        metavar="NODE",
+        help="compare by this pattern node, or by several with commas between them; else by all that both have",
+    )
+    _add_forms(command)
     _add_unchecked(command)
     _add_room(command)
 
@@ -163,7 +187,12 @@ def _add_import(command: argparse.ArgumentParser) -> None:
 
 
 def _add_measure(command: argparse.ArgumentParser) -> None:
-    command.add_argument("graph", metavar="FEED", help="a .feed file; its own constraints are not looked at")
+    command.add_argument("graph", metavar="FEED", help="a .feed file; the constraints that it has stay as they are")
+    command.add_argument(
+        "--for", dest="patterns", nargs="+", metavar="PATTERN", help="only the few that these patterns need to be covered"
+    )
+    command.add_argument("-o", "--output", metavar="FEED", help="write the graph with them into this .feed file")
+    _add_force(command)
 
 
 # what each command takes, what it does, and an example
@@ -175,6 +204,11 @@ _COMMANDS: dict[str, tuple[Callable[[argparse.ArgumentParser], None], str, str]]
         _add_list,
         "list the matches of a pattern",
         "bahrufaz list world.store a.pat\nbahrufaz list --csv world.store a.pat >a.csv",
+    ),
+    "compare": (
+        _add_compare,
+        "show what one pattern lists and another does not",
+        "bahrufaz compare world.store old.pat new.pat --by field",
     ),
     "show": (_add_show, "show what is in a store", "bahrufaz show world.store"),
     "draw": (
@@ -190,8 +224,8 @@ _COMMANDS: dict[str, tuple[Callable[[argparse.ArgumentParser], None], str, str]]
     ),
     "measure": (
         _add_measure,
-        "print constraints that hold in a graph today, each with its smallest N",
-        "bahrufaz measure world.feed",
+        "find constraints that hold in a graph today, each with its smallest N",
+        "bahrufaz measure world.feed\nbahrufaz measure world.feed --for a.pat -o measured.feed",
     ),
     "text": (_add_text, "write a store back as text", "bahrufaz text world.store -o world.feed"),
     "pattern": (

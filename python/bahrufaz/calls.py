@@ -61,6 +61,7 @@ class Listing:
     def __init__(self, store: Store, pattern: Pattern, listed: library.Listed):
         self.store, self.pattern = store, pattern
         self.matches, self.node_entries, self.edge_entries, self.bound, self.rows = listed
+        self._columns = pattern.node_names()
 
     def __len__(self) -> int:
         return self.matches
@@ -90,7 +91,7 @@ class Listing:
         return map(self._by_name, self.rows)
 
     def _by_name(self, row: tuple[int, ...]) -> dict[str, str]:
-        return dict(zip(self.pattern.node_names(), map(self.store.names.nodes.name, row)))
+        return dict(zip(self._columns, map(self.store.names.nodes.name, row)))
 
 
 def plan(store: Store, pattern: Pattern) -> Plan:

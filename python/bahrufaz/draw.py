@@ -11,6 +11,7 @@ from .names import Names
 from .pattern import Pattern, conditions_text
 from .store import Store
 from .tables import UNCHECKED, counted
+from .text import visible
 from .wrong import Wrong
 
 _FILLS = ("#cfe3f5", "#fbe3c0", "#d5edcf", "#f6d3d5", "#e2d8f0", "#f3efb5", "#cdeeea", "#e8dccf")
@@ -23,8 +24,8 @@ class DotMissing(Wrong):
 
 
 def _quoted(text: str) -> str:
-    escaped = text.replace("\\", "\\\\").replace('"', '\\"').replace("\n", "\\n")
-    return f'"{escaped}"'
+    lines = [visible(line).replace("\\", "\\\\").replace('"', '\\"') for line in text.split("\n")]
+    return '"' + "\\n".join(lines) + '"'
 
 
 def _attributes(**attributes: object) -> str:

@@ -3,16 +3,19 @@
 from __future__ import annotations
 
 import hashlib
+import re
 from pathlib import Path
 from typing import Iterable
 
+from .lines import Line, lines_of
 from .records import MAX_LABEL, MAX_NODES, Constraint
-from .text import Line, aligned, alike, lines_of, read_text, spelled
+from .text import MAX_NAME, aligned, alike, read_text, shortened, spelled
 from .whole import whole
 from .wrong import WrongName, WrongText
 
 
 NAMES_HEAD = "# names of labels and nodes of one store"
+_SURROGATE = re.compile("[\ud800-\udfff]")
 
 
 class Naming:
@@ -35,8 +38,10 @@ class Naming:
     def add(self, number: int, name: str) -> None:
         if not isinstance(name, str):
             raise WrongName(f"the name of a {self.what} is a text, and {name!r} is none")
-        if not name or any("\ud800" <= character <= "\udfff" for character in name):
+        if not name or _SURROGATE.search(name):
             raise WrongName("a name has at least one character, all of them Unicode")
+        if len(name) > MAX_NAME:
+            raise WrongName(f"a name has at most {MAX_NAME:,} characters, and this has {len(name):,}")
         if name in self._numbers:
             raise WrongName(f"{self.what} {spelled(name)} is there already, with number {self._numbers[name]}")
         if number in self._names:
@@ -58,8 +63,7 @@ class Naming:
         if not isinstance(named, str):
             return whole(f"the number of a {self.what}", named)
         if named not in self._numbers:
-            hint = alike(named, self._numbers)
-            raise WrongName(f"no {self.what} is named {spelled(named)}{hint}")
+            raise WrongName(f"no {self.what} is named {shortened(spelled(named))}{alike(named, self._numbers)}")
         return self._numbers[named]
 
     def items(self) -> list[tuple[int, str]]:

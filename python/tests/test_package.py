@@ -117,6 +117,19 @@ class Sentences(unittest.TestCase):
         self.assertTrue(sentence("build", 1).endswith("also g or e not 0"))
 
 
+class Names(unittest.TestCase):
+    def test_every_name_is_there_and_told_to_type_checkers(self):
+        for name in bahrufaz.__all__:
+            self.assertIsNotNone(getattr(bahrufaz, name))
+            self.assertIn(name, dir(bahrufaz))
+        with self.assertRaises(AttributeError):
+            bahrufaz.nothing
+        text = (CHECKOUT / "python" / "bahrufaz" / "__init__.py").read_text()
+        imported = re.search(r"^if TYPE_CHECKING:\n((?:    .*\n)+)", text, re.MULTILINE)[1]
+        told = [name.split(" as ")[-1] for line in imported.splitlines() for name in line.split(" import ")[1].split(", ")]
+        self.assertEqual(sorted(told), bahrufaz.__all__)
+
+
 class Versions(unittest.TestCase):
     def test_one_version_everywhere(self):
         version = (CHECKOUT / "VERSION").read_text().strip()

@@ -105,11 +105,15 @@ class FeedErrors(unittest.TestCase):
             "node c x value = 2.5": "expected a value, a whole number from -2,147,483,648 to 2,147,483,647, found '2.5'",
             "node c x value = 2147483648": "expected a value, a whole number from -2,147,483,648 to 2,147,483,647, "
             "found '2147483648'",
-            "edge a b": "expected ->, found 'b'",
+            "edge a b": "expected ->, found 'b'; a name with a blank in it is quoted, as \"a b\"",
+            "edge a -> b c": "expected the end of the line, found 'c'; a name with a blank in it is quoted, as \"b c\"",
+            "node body weight x": "expected value =, found 'x'; a name with a blank in it is quoted, as \"body weight\"",
+            "label body weight": "expected the number of label body, a whole number from 1 to 65,535, found 'weight'; "
+            "a name with a blank in it is quoted, as \"body weight\"",
             "edge a -> c": "no node is named c",
             "edge a -> 2": "no node has the id 2: there are 2 nodes, from id 0",
             "edge a -> a": "an edge joins two different nodes, and a -> a does not",
-            "constraint x y -> x at most 1": "expected ->, found 'y'",
+            "constraint x y -> x at most 1": "expected a comma or ->, found 'y'; a name with a blank in it is quoted, as \"x y\"",
             "constraint x -> y": "expected at most, found the end of the line",
             "constraint x -> y at most 0": "expected N, a whole number from 1 to 65,535, found '0'",
             "constraint x, x -> y at most 1": "a constraint has at most 3 labels before ->, each once",
@@ -120,6 +124,36 @@ class FeedErrors(unittest.TestCase):
         }.items():
             with self.subTest(line=line):
                 self.assert_error(line, message)
+
+    def test_all_mistakes_at_once_in_line_order(self):
+        text = "edge a -> d\nnode a z\nlabel y 0\nnode b y\nedge a -> b\nnode 2 y\nedge a -> 2\nconstraint -> z at most 1\n"
+        with self.assertRaises(WrongText) as caught:
+            Graph.of_text(text, "w")
+        self.assertEqual(
+            str(caught.exception),
+            "w:1: no node is named d\n"
+            "w:2: no label is named z\n"
+            "w:3: expected the number of label y, a whole number from 1 to 65,535, found '0'\n"
+            "w:8: no label is named z",
+        )
+        self.assertEqual([one.line for one in caught.exception.mistakes], [1, 2, 3, 8])
+
+    def test_of_very_many_mistakes_the_first_are_told(self):
+        with self.assertRaises(WrongText) as caught:
+            Graph.of_text("".join(f"node n{place} x\n" for place in range(3_000)), "w")
+        lines = str(caught.exception).split("\n")
+        self.assertEqual((len(lines), lines[0], lines[-1]), (21, "w:1: no label is named x", "w: 980 more mistakes"))
+
+    def test_lines_and_names_have_a_length(self):
+        self.assert_error(f"node {'n' * 1_001} x", "a name has at most 1,000 characters, and this has 1,001")
+        self.assert_error(f"node {'n' * 200_000} x", "a line has at most 100,000 characters, and this has 200,007")
+        self.assert_error(f"edge a -> {'n' * 500}", f"no node is named {'n' * 60}..")
+
+    def test_names_that_a_terminal_would_act_on_are_spelled_visibly(self):
+        for name, shown in {"a\x1b[31m": '"a\\u001b[31m"', "\x9b2J": '"\\u009b2J"', "a\u202eb": '"a\\u202eb"'}.items():
+            self.assertEqual(spelled(name), shown)
+            self.assertEqual(Graph.of_text(f"label x\nnode {shown} x\n").names.nodes.name(0), name)
+        self.assert_error("knot\x1b[31m", "expected label, node, edge or constraint, found 'knot\\u001b[31m'")
 
     def test_the_second_of_two_is_named(self):
         for line, message in {
@@ -210,15 +244,33 @@ class PatternErrors(unittest.TestCase):
 
     def test_labels_come_from_the_graph_or_the_pattern(self):
         names = small_world().names
-        with self.assertRaisesRegex(WrongName, "no label is named fild; did you mean field\\?"):
+        with self.assertRaisesRegex(WrongText, "text:1: no label is named fild; did you mean field\\?"):
             Pattern.of_text("node a fild").encode(names)
-        with self.assertRaisesRegex(WrongName, "no label is named field"):
+        with self.assertRaisesRegex(WrongText, "text:1: no label is named field"):
             Pattern.of_text("node a field").encode()
+        made = Pattern()
+        made.add_node("a", "fild")
+        with self.assertRaisesRegex(WrongName, "^no label is named fild; did you mean field\\?$"):
+            made.encode(names)
         own = Pattern.of_text("label field 4\nnode a field")
         self.assertEqual(own.encode(), own.encode(names))
-        other = Pattern.of_text("label field 5\nnode a field")
-        with self.assertRaisesRegex(WrongName, "label field is 5 in the pattern and 4 in the graph"):
+        other = Pattern.of_text("node a field\nnode b fild\n\nlabel field 5", "a.pat")
+        with self.assertRaises(WrongText) as caught:
             other.encode(names)
+        self.assertEqual(
+            str(caught.exception),
+            "a.pat:2: no label is named fild; did you mean field?\n"
+            "a.pat:4: label field is 5 in the pattern and 4 in the graph",
+        )
+
+    def test_all_mistakes_at_once_in_line_order(self):
+        self.assert_error(
+            "edge a -> c\nnode a x value = 1.5\nnod b x\nnode c y\nedge c -> d\nlabel y 0\n",
+            "2: expected a constant, a whole number from -2,147,483,648 to 2,147,483,647, found '1.5'\n"
+            "a.pat:3: expected label, node or edge, found 'nod'\n"
+            "a.pat:5: no pattern node is named d\n"
+            "a.pat:6: expected the number of label y, a whole number from 1 to 65,535, found '0'",
+        )
 
 
 class NamesFiles(unittest.TestCase):
