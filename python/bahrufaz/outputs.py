@@ -10,7 +10,7 @@ from typing import Callable
 
 from . import library
 from .files import is_special, read_most, write_whole
-from .names import NAMES_HEAD, names_path, other_owner
+from .namesfile import NAMES_HEAD, names_path, other_owner
 from .numbers import Refused
 from .pattern import check_pattern
 from .records import MAX_STORE_BYTES

@@ -12,7 +12,8 @@ from typing import Iterator
 from . import library
 from .files import read_most
 from .graph import Graph
-from .names import NAMES_HEAD, Names, names_path, read_names
+from .names import Names
+from .namesfile import NAMES_HEAD, names_path, read_names
 from .numbers import Refused
 from .pattern import Pattern, check_pattern
 from .records import MAX_PATTERN_BYTES, MAX_STORE_BYTES, bytes_said, draft_of

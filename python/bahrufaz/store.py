@@ -7,7 +7,8 @@ from pathlib import Path
 
 from . import library
 from .files import read_most, write_together
-from .names import Names, are_names_of, names_path, names_text, read_names
+from .names import Names
+from .namesfile import are_names_of, names_path, names_text, read_names
 from .numbers import Refused
 from .records import MAX_STORE_BYTES, Constraint, Counts, Sections, counts_of, is_draft
 

@@ -6,7 +6,7 @@ from pathlib import Path
 
 from bahrufaz import Graph, Names, Pattern, Store, WrongGraph, WrongName, WrongText
 from bahrufaz.files import write_whole
-from bahrufaz.names import names_path, names_text, read_names
+from bahrufaz.namesfile import names_path, names_text, read_names
 from bahrufaz.text import aligned, spelled
 
 from .worlds import EXAMPLES, random_pattern, random_world, small_world
@@ -301,6 +301,34 @@ class NamesFiles(unittest.TestCase):
         self.path.write_bytes(world.build().data)
         with self.assertRaisesRegex(WrongText, "world.names:2: these are the names of another store"):
             Store.read(self.path)
+
+    def test_a_long_file_is_looked_into(self):
+        graph = Graph()
+        graph.add_label("x")
+        for place in range(3_000):
+            graph.add_node(f"n{place}" if place % 3 else f"n {place}", "x")
+        store = graph.build()
+        store.write(self.path)
+        again = Store.read(self.path)
+        self.assertEqual([again.names.nodes.name(node) for node in (0, 1, 2_997)], ["n 0", "n1", "n 2997"])
+        self.assertFalse("_whole" in vars(again.names.nodes))
+        self.assertEqual(again.names.nodes.name(3_000), "3000")
+        self.assertEqual(again.names.nodes, store.names.nodes)
+        self.assertEqual(again.names.nodes.number("n7"), 7)
+
+    def test_a_long_file_in_another_order_is_read_whole(self):
+        graph = Graph()
+        graph.add_label("x")
+        for place in range(3_000):
+            graph.add_node(f"n{place}", "x")
+        store = graph.build()
+        store.write(self.path)
+        lines = names_path(self.path).read_text().splitlines()
+        for swapped in (lines[:2] + lines[:1:-1], lines[:10] + [lines[11], lines[10]] + lines[12:], lines[:-1]):
+            names_path(self.path).write_text("\n".join(swapped) + "\n")
+            again = Store.read(self.path).names.nodes
+            self.assertEqual([again.name(node) for node in range(10)], [f"n{node}" for node in range(10)])
+        self.assertEqual(again.name(2_999), "2999")
 
     def test_wrong_names(self):
         store = small_world().build()
