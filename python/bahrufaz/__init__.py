@@ -20,6 +20,8 @@ if TYPE_CHECKING:
     from .calls import Listing, Plan, Row, list_unchecked, plan
     from .calls import list_matches as list
     from .comparing import Compared, compare
+    from .dot import Picture
+    from .draw import draw_matches, draw_pattern, draw_plan
     from .graph import Graph, Node
     from .importing import Imported, Keys, from_networkx, import_csv, import_graphml, to_networkx
     from .measuring import measure, measure_for
@@ -36,6 +38,8 @@ __version__ = "0.1.0"
 _MODULES = {
     "calls": ("Listing", "Plan", "Row", "list_unchecked", "plan"),
     "comparing": ("Compared", "compare"),
+    "dot": ("Picture",),
+    "draw": ("draw_matches", "draw_pattern", "draw_plan"),
     "graph": ("Graph", "Node"),
     "importing": ("Imported", "Keys", "from_networkx", "import_csv", "import_graphml", "to_networkx"),
     "measuring": ("measure", "measure_for"),

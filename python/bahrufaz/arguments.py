@@ -169,7 +169,9 @@ def _add_draw(command: argparse.ArgumentParser) -> None:
     )
     command.add_argument("-o", "--output", metavar="FILE", help=".dot, .svg, .png or .pdf; else DOT on standard output")
     command.add_argument("--most", type=_count, default=50, metavar="N", help="draw the first N matches (%(default)s)")
-    command.add_argument("--near", type=_count, default=3, metavar="N", help="draw N neighbours of each node (%(default)s)")
+    command.add_argument(
+        "--near", type=_count, metavar="N", help="draw N neighbours of each node (3 round up to 8 matches, else none)"
+    )
     _add_force(command)
     _add_unchecked(command)
     _add_room(command)

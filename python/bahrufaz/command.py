@@ -11,6 +11,7 @@ from pathlib import Path
 from typing import Iterable, Sequence
 
 from . import arguments, calls, draw, importing, listing, outputs, tables
+from .dot import Picture
 from .graph import Graph
 from .measuring import measure, measure_for
 from .names import Names
@@ -207,33 +208,32 @@ def _encoded(pattern: calls.Pattern, store: Store | None, asked: argparse.Namesp
 def _draw(asked: argparse.Namespace) -> int:
     outputs.check_picture(asked)
     with working("drawing"):
-        dot, told = _dot(asked)
+        picture = _picture(asked)
         if asked.output in (None, outputs.STDOUT):
-            print(dot)
+            print(picture.dot)
             return ANSWERED
-        suffix = Path(asked.output).suffix
-        drawn = suffix in outputs.PICTURES and suffix != ".dot"
-        outputs.put(asked.output, draw.picture(dot, suffix[1:]) if drawn else dot + "\n")
-    print(f"{asked.output}: {told}")
+        picture.write(asked.output)
+    print(f"{asked.output}: {picture.told}")
     return ANSWERED
 
 
-def _dot(asked: argparse.Namespace) -> tuple[str, str]:
-    """What is to be drawn as DOT, and a sentence about it."""
-    pattern, caption = pattern_of(asked.pattern, order_of(asked)), Path(asked.pattern).name
+def _picture(asked: argparse.Namespace) -> Picture:
+    """What is to be drawn."""
+    pattern, title = pattern_of(asked.pattern, order_of(asked)), Path(asked.pattern).name
     if asked.what == "pattern":
         names = store_of(asked, built=False).names if asked.store else None
-        return draw.pattern_dot(pattern, names, caption), "the pattern"
+        return draw.draw_pattern(pattern, names, title)
     if not asked.store:
         raise Wrong(f"a store is needed to draw the {asked.what}: bahrufaz draw STORE PATTERN")
-    store = store_of(asked, built=False) if asked.what == "plan" else listing.trusted_store(asked)
-    with about(asked.store, asked.pattern), names_hint(store, asked.store):
-        if asked.what == "plan":
-            plan = calls.plan(store, pattern)
-            return draw.plan_dot(plan, caption), f"the plan, T = {plan.bound}"
+    title += f" in {Path(shown(asked.store)).name}"
+    if asked.what == "plan":
+        store = store_of(asked, built=False)
+        with about(asked.store, asked.pattern), names_hint(store, asked.store):
+            return draw.draw_plan(calls.plan(store, pattern), title)
+    store = listing.trusted_store(asked)
     found = listing.listed(asked, store, pattern, asked.pattern)
     listing.warn_unchecked(store, complain)
-    return draw.matches_dot(found, asked.most, asked.near, caption), draw.shown_of(found, asked.most)
+    return draw.draw_matches(found, asked.most, asked.near, title)
 
 
 def _import(asked: argparse.Namespace) -> int:

@@ -9,6 +9,7 @@ from pathlib import Path
 from typing import Callable
 
 from . import library
+from .dot import PICTURES
 from .files import is_special, read_most, write_whole
 from .namesfile import NAMES_HEAD, names_path, other_owner
 from .numbers import Refused
@@ -22,7 +23,6 @@ STORE, PATTERN, NAMES = "a store", "a pattern", "a file of names"
 # what the name of a file says that it is, by its ending; the texts are read as such by every command
 _TEXTS = {".feed": "the text of a graph", ".pat": "the text of a pattern", ".names": NAMES}
 _SAID = {**_TEXTS, ".store": STORE}
-PICTURES = {".dot": "a DOT text", ".svg": "an SVG picture", ".png": "a PNG picture", ".pdf": "a PDF picture"}
 _BEGINS = {
     NAMES: (NAMES_HEAD.encode(),),
     PICTURES[".dot"]: (b"digraph",),

@@ -42,6 +42,7 @@ class Pattern:
         self.names = Naming("pattern node")
         self.nodes: list[PatternNode] = []
         self.edges: set[tuple[int, int]] = set()
+        self.question = ""  # what a text asks: the comment that it begins with
         self._file = ""
         self._lines: dict[str | int, int] = {}  # where the text says what a label is, and what a node is
 
@@ -133,7 +134,7 @@ class Pattern:
     def of_text(cls, text: str, file: str = "text") -> Pattern:
         """The pattern of a .pat text."""
         pattern, mistakes = cls(), Mistakes(file)
-        pattern._file = file
+        pattern._file, pattern.question = file, _first_comment(text)
         lines = sorted_lines(text, ("label", "node", "edge"), "label, node or edge", mistakes)
         take_lines(lines["label"], _label_line, pattern, mistakes, _stand_in_label)
         take_lines(lines["node"], _node_line, pattern, mistakes, _stand_in_node)
@@ -169,6 +170,12 @@ class Pattern:
     def write(self, path: str | Path, names: Names | None = None) -> None:
         """Writes a .pat file, whole or not at all."""
         write_whole(path, self.text(names))
+
+
+def _first_comment(text: str) -> str:
+    """The comment of the first line."""
+    first = text.partition("\n")[0].strip()
+    return first.lstrip("#").strip() if first.startswith("#") else ""
 
 
 def _checked(condition: tuple[str, int]) -> Condition:
