@@ -138,6 +138,16 @@ def _add_compare(command: argparse.ArgumentParser) -> None:
     _add_room(command)
 
 
+def _add_report(command: argparse.ArgumentParser) -> None:
+    _add_store(command)
+    _add_pattern(command, "+")
+    command.add_argument("-o", "--output", required=True, metavar="HTML", help="the page, a single file")
+    command.add_argument("--limit", type=_count, default=200, metavar="N", help="show the first N matches of each (%(default)s)")
+    _add_force(command)
+    _add_unchecked(command)
+    _add_room(command)
+
+
 def _add_show(command: argparse.ArgumentParser) -> None:
     _add_store(command)
     _add_json(command)
@@ -211,6 +221,11 @@ _COMMANDS: dict[str, tuple[Callable[[argparse.ArgumentParser], None], str, str]]
         _add_compare,
         "show what one pattern lists and another does not",
         "bahrufaz compare world.store old.pat new.pat --by field",
+    ),
+    "report": (
+        _add_report,
+        "make a page to read and print: a checklist of patterns, each with its picture, its plan and its matches",
+        "bahrufaz report world.store *.pat -o report.html",
     ),
     "show": (_add_show, "show what is in a store", "bahrufaz show world.store"),
     "draw": (

@@ -173,6 +173,15 @@ def _compare(asked: argparse.Namespace) -> int:
     return listing.compare_command(asked, emit, complain)
 
 
+def _report(asked: argparse.Namespace) -> int:
+    outputs.check_report(asked)
+    with working(f"reporting on {shown(asked.store)}"):
+        page, status = listing.report_command(asked)
+        outputs.put(asked.output, page)
+    _say(asked, f"a report on {tables.counted(len(asked.pattern), 'pattern', 'patterns')}")
+    return status
+
+
 def _text(asked: argparse.Namespace) -> int:
     outputs.check_text(asked, ".feed")
     store = store_of(asked, built=False)
@@ -284,6 +293,7 @@ _COMMANDS = {
     "plan": _plan,
     "list": _list,
     "compare": _compare,
+    "report": _report,
     "show": _show,
     "draw": _draw,
     "import": _import,

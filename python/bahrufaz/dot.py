@@ -64,9 +64,9 @@ def digraph(title: Sequence[str], legend: Mapping[str, str], body: Iterable[str]
     """A whole picture: its title, first the bold line; a legend of texts by their colours; at most a page."""
     page = ",".join(map(str, _PAGE if portrait else _PAGE[::-1]))
     head = [
-        f"digraph {quoted(title[0])} {{",
+        f"digraph {quoted(title[0])} {{" if title else "digraph {",
         f"  graph {attributes(rankdir='LR', labelloc='t', fontname='sans-serif', nodesep=0.25, size=page)}",
-        f"  graph [label=<{_heading(title, legend)}>]",
+        *([f"  graph [label=<{_heading(title, legend)}>]"] if title else []),
         f"  node {attributes(shape='box', style='rounded,filled', fillcolor='white', fontname='sans-serif')}",
         f"  edge {attributes(fontname='sans-serif', fontsize=10)}",
     ]

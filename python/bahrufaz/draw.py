@@ -53,12 +53,12 @@ def _titled(pattern: Pattern, title: str) -> list[str]:
     return [pattern.question, title] if pattern.question and title else [pattern.question or title or "pattern"]
 
 
-def draw_pattern(pattern: Pattern, names: Names | None = None, title: str = "") -> Picture:
+def draw_pattern(pattern: Pattern, names: Names | None = None, title: str = "", titled: bool = True) -> Picture:
     """The nodes that are looked for, with their conditions, and the edges between them."""
     roles = _Roles(pattern, names or Names())
     body = [roles.node(node) for node in range(len(pattern.nodes))]
     body += [roles.edge(*edge) for edge in pattern.edge_list]
-    return Picture(digraph(_titled(pattern, title), {}, body), "the pattern")
+    return Picture(digraph(_titled(pattern, title) if titled else [], {}, body), "the pattern")
 
 
 def draw_plan(plan: Plan, title: str = "") -> Picture:

@@ -12,6 +12,7 @@ from .comparing import Compared, compare
 from .numbers import Refused
 from .progress import working
 from .reading import about, names_hint, order_of, pattern_of, store_of
+from .report import Chapter, report
 from .store import AdmittedStore, Store
 from .text import visible
 from .wrong import Wrong
@@ -101,7 +102,7 @@ class Counted(NamedTuple):
 def _count_command(asked: argparse.Namespace, emit: Emit, complain: Complain) -> int:
     """A line for each pattern: its answer, and how much was found and read."""
     store = trusted_store(asked)
-    rows = [_counted(asked, store, path) for path in asked.pattern]
+    rows = list(map(_counted, chapters(asked, store)))
     head = ("pattern", "answer", "matches", "read", "T", "why" if asked.csv else "")
     if asked.json or asked.csv:
         warn_unchecked(store, complain)
@@ -112,21 +113,47 @@ def _count_command(asked: argparse.Namespace, emit: Emit, complain: Complain) ->
         emit(_csv(tables.csv_lines(head, rows)))
     else:
         emit(tables.marked(store, tables.table(head, rows)))
+    return worst(rows)
+
+
+def _counted(chapter: Chapter) -> Counted:
+    found, refused = chapter.listing, chapter.refused
+    if found is not None:
+        return Counted(chapter.name, 0, found.matches, found.entries, found.bound, "")
+    if refused:
+        return Counted(chapter.name, refused.number, "", "", "", refused.sentence)
+    return Counted(chapter.name, "wrong", "", "", "", chapter.wrong.split("\n")[0])
+
+
+def worst(rows: Iterable[Counted]) -> int:
+    """The exit status of several patterns."""
     answers = [row.answer for row in rows]
     return WRONG_USE if "wrong" in answers else REFUSED if any(answers) else ANSWERED
 
 
-def _counted(asked: argparse.Namespace, store: Store, path: str) -> Counted:
-    name = Path(path).name
+def chapters(asked: argparse.Namespace, store: Store) -> list[Chapter]:
+    """What a report says about each pattern; one that cannot be read is no end of it."""
+    return [_chapter(asked, store, path) for path in asked.pattern]
+
+
+def _chapter(asked: argparse.Namespace, store: Store, path: str) -> Chapter:
+    name, pattern = Path(path).name, None
     try:
-        found = listed(asked, store, pattern_of(path), path)
-        return Counted(name, 0, found.matches, found.entries, found.bound, "")
+        pattern = pattern_of(path)
+        return Chapter(name, pattern, listed(asked, store, pattern, path), None, "")
     except Refused as refused:
-        return Counted(name, refused.number, "", "", "", refused.sentence)
+        return Chapter(name, pattern, None, refused, str(refused))
     except OSError as error:
-        return Counted(name, "wrong", "", "", "", error.strerror or str(error))
+        return Chapter(name, pattern, None, None, f"{path}: {error.strerror or error}")
     except Wrong as error:
-        return Counted(name, "wrong", "", "", "", str(error).split("\n")[0])
+        return Chapter(name, pattern, None, None, str(error))
+
+
+def report_command(asked: argparse.Namespace) -> tuple[str, int]:
+    """The page of a report, and the exit status."""
+    store = trusted_store(asked)
+    told = chapters(asked, store)
+    return report(f"Report on {Path(asked.store).name}", store, told, asked.limit), worst(map(_counted, told))
 
 
 def compare_command(asked: argparse.Namespace, emit: Emit, complain: Complain) -> int:

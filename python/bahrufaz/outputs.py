@@ -15,16 +15,18 @@ from .namesfile import NAMES_HEAD, names_path, other_owner
 from .numbers import Refused
 from .pattern import check_pattern
 from .records import MAX_STORE_BYTES
+from .report import REPORT_HEAD
 from .wrong import Wrong
 
 STDOUT = "-"
 _INPUTS = ("graph", "store", "pattern", "first", "second", "patterns", "file", "nodes", "names")  # arguments that name a file to be read
-STORE, PATTERN, NAMES = "a store", "a pattern", "a file of names"
+STORE, PATTERN, NAMES, REPORT = "a store", "a pattern", "a file of names", "a report"
 # what the name of a file says that it is, by its ending; the texts are read as such by every command
 _TEXTS = {".feed": "the text of a graph", ".pat": "the text of a pattern", ".names": NAMES}
 _SAID = {**_TEXTS, ".store": STORE}
 _BEGINS = {
     NAMES: (NAMES_HEAD.encode(),),
+    REPORT: (REPORT_HEAD.encode(),),
     PICTURES[".dot"]: (b"digraph",),
     PICTURES[".svg"]: (b"<?xml", b"<svg"),
     PICTURES[".png"]: (b"\x89PNG",),
@@ -76,6 +78,15 @@ def check_picture(asked: argparse.Namespace) -> None:
     if kind is None and not is_special(asked.output):
         raise Wrong(f"{asked.output}: the name of a picture ends in one of {', '.join(PICTURES)}")
     _check_place(asked.output, kind or "", asked)
+
+
+def check_report(asked: argparse.Namespace) -> None:
+    """A report may be written over a report."""
+    if asked.output == STDOUT:
+        return
+    if Path(asked.output).suffix not in (".html", ".htm") and not is_special(asked.output):
+        raise Wrong(f"{asked.output}: the name of a report ends in .html")
+    _check_place(asked.output, REPORT, asked)
 
 
 def check_names(asked: argparse.Namespace) -> None:

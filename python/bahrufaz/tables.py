@@ -148,13 +148,17 @@ def listing_rows(listing: Listing, ids: bool, limit: int | None) -> _Again:
     return _Again(lambda: ([shown(node) for node in row] for row in itertools.islice(listing.rows, limit)))
 
 
+def matches_text(listing: Listing, limit: int | None = None) -> str:
+    """How many matches there are, and how many of them are shown."""
+    matches = counted(listing.matches, "match", "matches") if listing.matches else "no match"
+    cut = limit is not None and limit < listing.matches
+    return f"{matches}, the first {limit:,} shown" if cut else matches
+
+
 def found_and_read(listing: Listing, limit: int | None = None) -> str:
     """How much was found, and what was read for it."""
-    matches = counted(listing.matches, "match", "matches") if listing.matches else "no match"
-    if limit is not None and limit < listing.matches:
-        matches += f", the first {limit:,} shown"
     return (
-        f"{matches}; {counted(listing.entries, 'entry', 'entries')} read of at most {listing.bound:,} "
+        f"{matches_text(listing, limit)}; {counted(listing.entries, 'entry', 'entries')} read of at most {listing.bound:,} "
         f"({listing.node_entries:,} for nodes, {listing.edge_entries:,} for edges)"
     )
 

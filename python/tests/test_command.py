@@ -198,7 +198,10 @@ class Commands(CommandCase):
 
     def test_every_command_has_help_with_an_example(self):
         overview = self.answer("--help")
-        for command in ("build", "admit", "plan", "list", "show", "draw", "import", "measure", "text", "pattern"):
+        from bahrufaz.command import _COMMANDS
+
+        self.assertEqual(len(_COMMANDS), 12)
+        for command in _COMMANDS:
             self.assertIn(f"    {command} ", overview)
             told = self.answer(command, "--help")
             self.assertIn(f"example:\n  bahrufaz {command} ", told)

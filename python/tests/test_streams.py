@@ -171,7 +171,7 @@ class Lists(CommandCase):
             "a.pat      0             1     8  38\n"
             "only.pat   7                          a pattern node or edge is not covered\n"
             "wrong.pat  wrong                      wrong.pat:2: expected label, node or edge, found 'nod'\n"
-            "none.pat   wrong                      No such file or directory\n",
+            "none.pat   wrong                      none.pat: No such file or directory\n",
         )
         told = json.loads(self.run_command("list", "--count", "--json", "world.feed", *paths)[1])
         self.assertEqual(told["patterns"][0], {"pattern": "a.pat", "answer": 0, "matches": 1, "read": 8, "T": 38})
