@@ -14,7 +14,7 @@ What is proved stays in the library; this package lends it bytes and shows its a
 from __future__ import annotations
 
 import importlib
-from typing import TYPE_CHECKING
+from typing import TYPE_CHECKING, List
 
 if TYPE_CHECKING:
     from .calls import Listing, Plan, Row, list_unchecked, plan
@@ -65,5 +65,5 @@ def __getattr__(name: str) -> object:
     return found
 
 
-def __dir__() -> list[str]:
+def __dir__() -> List[str]:
     return [*globals(), *_PLACES]

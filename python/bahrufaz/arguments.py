@@ -3,7 +3,7 @@
 from __future__ import annotations
 
 import argparse
-from typing import Callable
+from typing import Any, Callable
 
 from . import __version__, library
 from .text import shortened
@@ -48,7 +48,7 @@ def _count(text: str) -> int:
     return int(text)
 
 
-def _add_store(command: argparse.ArgumentParser, nargs: str | None = None) -> None:
+def _add_store(command: argparse.ArgumentParser, nargs: Any = None) -> None:
     command.add_argument(
         "store", nargs=nargs, metavar="STORE", help="a store; or a .feed file, which is built without being kept"
     )
@@ -61,7 +61,7 @@ def _add_names(command: argparse.ArgumentParser) -> None:
     group.add_argument("--no-names", action="store_true", help="show ids and label numbers")
 
 
-def _add_pattern(command: argparse.ArgumentParser, nargs: str | None = None) -> None:
+def _add_pattern(command: argparse.ArgumentParser, nargs: Any = None) -> None:
     command.add_argument(
         "pattern", metavar="PATTERN", nargs=nargs, help="a .pat file; any other is read as the bytes of a pattern"
     )

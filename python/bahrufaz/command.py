@@ -71,10 +71,17 @@ def main(given: Sequence[str] | None = None) -> int:
 
 def _prepare_streams() -> None:
     """What a terminal cannot show is written as in JSON; files and pipes get UTF-8, as the text forms are."""
-    codecs.register_error("as in JSON", lambda error: (json.dumps(error.object[error.start : error.end])[1:-1], error.end))
+    codecs.register_error("as in JSON", _as_in_json)
     for stream in (sys.stdout, sys.stderr):
         if hasattr(stream, "reconfigure"):
             stream.reconfigure(encoding=None if stream.isatty() else "utf-8", errors="as in JSON")
+
+
+def _as_in_json(error: UnicodeError) -> tuple[str, int]:
+    """What cannot be written, in the escapes of JSON."""
+    if not isinstance(error, UnicodeEncodeError):
+        raise error
+    return json.dumps(error.object[error.start : error.end])[1:-1], error.end
 
 
 def _check_stdin(asked: argparse.Namespace) -> None:

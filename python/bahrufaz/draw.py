@@ -118,7 +118,7 @@ def _scene(listing: Listing, most: int, near: int | None) -> _Scene:
     large = min(most, listing.matches) <= _FEW
     near = (_NEAR if large else 0) if near is None else near
     roles: dict[int, list[str]] = {}
-    matched = set()
+    matched: set[tuple[int, int]] = set()
     for row in listing.rows[:most]:
         for node, role in zip(row, names):
             if role not in roles.setdefault(node, []):
@@ -151,7 +151,7 @@ def draw_matches(listing: Listing, most: int = 50, near: int | None = None, titl
     body = [_matched_node(scene, store, node) for node in sorted(scene.roles)]
     body += [_near_node(scene, store, node) for node in scene.near]
     for start, end in scene.edges:
-        style = {"penwidth": 2} if (start, end) in scene.matched else {"color": GREY}
+        style: dict[str, object] = {"penwidth": 2} if (start, end) in scene.matched else {"color": GREY}
         body.append(f"{quoted(name(start))} -> {quoted(name(end))} {attributes(**style)}")
     told = [*_titled(listing.pattern, title), shown_of(listing, most), _unread(store)]
     told += [] if listing.admitted else [UNCHECKED]

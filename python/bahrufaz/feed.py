@@ -7,7 +7,7 @@ from typing import Callable, Iterable, Protocol, Sequence
 
 from .lines import NAME, Line, Mistakes, meant, sorted_lines, take_edge, take_label_name, take_lines, take_node_name, unquoted
 from .names import Names
-from .records import MAX_LABEL, MAX_N, MAX_VALUE, MIN_VALUE, Constraint
+from .records import MAX_CONSTRAINTS, MAX_EDGES, MAX_LABEL, MAX_N, MAX_NODES, MAX_VALUE, MIN_VALUE, Constraint
 from .text import WHOLE_NUMBER, aligned, spelled
 from .wrong import WrongGraph, WrongName, WrongText
 
@@ -16,11 +16,22 @@ _NODE = re.compile(rf"\s*node\s+({NAME})\s+({NAME})(?:\s+value\s*=\s*(-?[0-9]{{1
 _EDGE = re.compile(rf"\s*edge\s+({NAME})\s+(?:->|→)\s+({NAME})\s*(?:#.*)?")
 
 
+_MOST_LINES = {
+    "label": MAX_LABEL,
+    "node": MAX_NODES,
+    "no": 1,
+    "edge": MAX_EDGES,
+    "constraint": MAX_CONSTRAINTS,
+}
+
+
 class Fed(Protocol):
     """What a text is put into: a graph."""
 
     names: Names
-    nodes: Sequence[tuple[int, int]]
+
+    @property
+    def nodes(self) -> Sequence[tuple[int, int]]: ...
 
     def add_label(self, name: str, number: int | None = None) -> int: ...
 
@@ -34,7 +45,7 @@ class Fed(Protocol):
 def fill(graph: Fed, text: str, file: str) -> None:
     """Puts a text into an empty graph; labels, nodes, edges and constraints may stand in any order."""
     mistakes = Mistakes(file)
-    lines = sorted_lines(text, ("label", "node", "no", "edge", "constraint"), "label, node, edge or constraint", mistakes)
+    lines = sorted_lines(text, _MOST_LINES, "label, node, edge or constraint", mistakes)
     take_lines(lines["label"], _label_line, graph, mistakes, _stand_in_label)
     take_lines(_unusual(lines["node"], _quick_node, graph, mistakes), _node_line, graph, mistakes, _stand_in_node)
     take_lines(lines["no"], _no_nodes_line, graph, mistakes)
@@ -65,7 +76,7 @@ def _quick_node(line: str, graph: Fed) -> bool:
     name, label, value = found.groups()
     if WHOLE_NUMBER.fullmatch(name):
         return False
-    graph.add_node(_meant(name), _meant(label), int(value) if value else 0)
+    graph.add_node(_name(name), _meant(label), int(value) if value else 0)
     return True
 
 
@@ -77,11 +88,14 @@ def _quick_edge(line: str, graph: Fed) -> bool:
     return True
 
 
+def _name(name: str) -> str:
+    """A name, quoted or not."""
+    return unquoted(name, "", 0) if name[0] == '"' else name
+
+
 def _meant(name: str) -> str | int:
     """A name, quoted or not; a bare number is a number."""
-    if name[0] == '"':
-        return unquoted(name, "", 0)
-    return int(name) if WHOLE_NUMBER.fullmatch(name) and len(name) < 20 else name
+    return int(name) if WHOLE_NUMBER.fullmatch(name) and len(name) < 20 else _name(name)
 
 
 def _label_line(line: Line, graph: Fed) -> None:

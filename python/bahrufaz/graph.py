@@ -50,6 +50,9 @@ class Graph:
         self.constraints: list[Constraint] = []
         self._last_label = 0
 
+    def __repr__(self) -> str:
+        return f"<Graph: {len(self.nodes)} nodes, {len(self.edges)} edges, {len(self.constraints)} constraints>"
+
     def add_label(self, name: str, number: int | None = None) -> int:
         """Names a label; without a number it takes the one after the label added before."""
         wanted = within("the number of a label", self._last_label + 1 if number is None else number, 1, MAX_LABEL)

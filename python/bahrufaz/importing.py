@@ -201,7 +201,7 @@ def from_networkx(network: Any, label: str = "label", value: str = "value") -> G
 def to_networkx(graph: Graph) -> Any:
     """A networkx.DiGraph: nodes by name, or by id where there is none, with label and value."""
     try:
-        import networkx
+        import networkx  # type: ignore[import]
     except ImportError:
         raise Wrong("networkx is not installed: install it, or write GraphML with another tool") from None
     network = networkx.DiGraph()

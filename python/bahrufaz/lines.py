@@ -3,11 +3,12 @@
 from __future__ import annotations
 
 import contextlib
+import io
 import json
 import re
-from typing import Callable, Iterable, Iterator, NamedTuple, Sequence, TypeVar
+from typing import Callable, Iterable, Iterator, Mapping, NamedTuple, TypeVar
 
-from .text import MAX_NAME, WHOLE_NUMBER, WORD, shortened, spelled
+from .text import WHOLE_NUMBER, WORD, shortened, spelled
 from .wrong import WrongGraph, WrongName, WrongText, WrongTexts
 
 MAX_LINE = 100_000
@@ -143,21 +144,32 @@ class Mistakes:
             raise WrongTexts(sorted(self._found, key=lambda one: one.line))
 
 
-def sorted_lines(text: str, kinds: Sequence[str], what: str, mistakes: Mistakes) -> dict[str, list[tuple[int, str]]]:
-    """The lines that say something, numbered, by their kinds, which are their first words."""
+def numbered_lines(text: str) -> Iterator[tuple[int, str]]:
+    """The lines of a text one by one, never all of them at once."""
+    for number, line in enumerate(io.StringIO(text), 1):
+        yield number, line[:-1] if line[-1] == "\n" else line
+
+
+def sorted_lines(
+    text: str, kinds: Mapping[str, int], what: str, mistakes: Mistakes
+) -> dict[str, list[tuple[int, str]]]:
+    """The lines that say something, numbered, by their kinds, which are their first words: so many at most of each."""
     found: dict[str, list[tuple[int, str]]] = {kind: [] for kind in kinds}
-    for number, line in enumerate(text.split("\n"), 1):
+    for number, line in numbered_lines(text):
         words = line.split(None, 1)
         if not words or words[0][0] == "#":
             continue
-        if words[0] in found and len(line) <= MAX_LINE:
-            found[words[0]].append((number, line))
-            continue
-        try:
-            kind = Line("", number, tokens_of(line, "", number)).choose(found, what)
-            found[kind].append((number, line))
-        except WrongText as error:
-            mistakes.add(number, error.message)
+        kind = words[0]
+        if kind not in found or len(line) > MAX_LINE:
+            try:
+                kind = Line("", number, tokens_of(line, "", number)).choose(found, what)
+            except WrongText as error:
+                mistakes.add(number, error.message)
+                continue
+        found[kind].append((number, line))
+        if len(found[kind]) > kinds[kind]:
+            mistakes.add(number, f"there are at most {kinds[kind]:,} {kind} lines")
+            mistakes.tell()
     return found
 
 
@@ -181,14 +193,6 @@ def take_lines(
             mistakes.add(number, error.message if isinstance(error, WrongText) else str(error))
             with contextlib.suppress(WrongName, WrongGraph):
                 stand_in(name, target)
-
-
-def lines_of(text: str, file: str) -> Iterator[Line]:
-    """The lines that say something."""
-    for number, line in enumerate(text.split("\n"), 1):
-        tokens = tokens_of(line, file, number)
-        if tokens:
-            yield Line(file, number, tokens)
 
 
 def tokens_of(line: str, file: str, number: int) -> list[Token]:

@@ -44,20 +44,25 @@ def warn_unchecked(store: Store, complain: Complain) -> None:
 
 def listed(asked: argparse.Namespace, store: Store, pattern: calls.Pattern, path: str) -> calls.Listing:
     """The listing of a pattern; where the room is too short, the refusal says how much is needed."""
-    call = calls.list_matches if isinstance(store, AdmittedStore) else calls.list_unchecked
     with about(asked.store, path), names_hint(store, asked.store), working(f"listing {path}"):
         try:
-            return call(store, pattern, asked.room)
+            return _listed(store, pattern, asked.room)
         except Refused as refused:
             if refused.number == 10:
-                refused.detail = _room_needed(call, store, pattern, asked.room)
+                refused.detail = _room_needed(store, pattern, asked.room)
             raise
 
 
-def _room_needed(call: Callable[..., calls.Listing], store: Store, pattern: calls.Pattern, room: int) -> str:
+def _listed(store: Store, pattern: calls.Pattern, room: int) -> calls.Listing:
+    if isinstance(store, AdmittedStore):
+        return calls.list_matches(store, pattern, room)
+    return calls.list_unchecked(store, pattern, room)
+
+
+def _room_needed(store: Store, pattern: calls.Pattern, room: int) -> str:
     """How many words the matches take, counted with as much room as is lent at most by default."""
     try:
-        matches = len(call(store, pattern, max(room, library.MOST_ROOM_WORDS)))
+        matches = _listed(store, pattern, max(room, library.MOST_ROOM_WORDS)).matches
     except (Refused, MemoryError):
         return f"the matches take more than {max(room, library.MOST_ROOM_WORDS):,} words"
     words = matches * len(pattern.nodes)
@@ -85,7 +90,8 @@ def list_command(asked: argparse.Namespace, emit: Emit, complain: Complain) -> i
 
 def _csv(lines: Iterable[str]) -> Iterator[str]:
     """CSV as it is for a file, and with nothing in it that a terminal would act on for one."""
-    return map(visible, lines) if sys.stdout.isatty() else iter(lines)
+    to_terminal = sys.stdout.isatty()
+    return (visible(line) if to_terminal else line for line in lines)
 
 
 class Counted(NamedTuple):

@@ -74,6 +74,9 @@ class Naming:
 class Names:
     """The names of labels by their numbers and of nodes by their ids."""
 
+    def __repr__(self) -> str:
+        return f"<Names of {len(self.labels)} labels and {len(self.nodes)} nodes>"
+
     def __init__(self) -> None:
         self.labels = Naming("label")
         self.nodes = Naming("node")

@@ -8,13 +8,14 @@ from functools import cached_property
 from pathlib import Path
 from typing import Callable
 
-from .lines import NAME, Line, tokens_of, unquoted
+from .lines import NAME, Line, numbered_lines, tokens_of, unquoted
 from .names import Names, Naming
 from .records import MAX_LABEL, MAX_NODES
 from .text import WORD, aligned, read_text, spelled
-from .wrong import WrongName, WrongText
+from .wrong import Wrong, WrongName, WrongText
 
 NAMES_HEAD = "# names of labels and nodes of one store"
+_MOST_LINES = 2 * (MAX_LABEL + MAX_NODES)
 _LONG = 1_000  # lines from which on a file is looked into, and not read whole
 _PLAIN_NODE = re.compile(rf"node ({WORD}) +([0-9]{{1,5}})")
 _ANY_NODE = re.compile(rf"node ({NAME}) +([0-9]{{1,5}})")
@@ -62,6 +63,8 @@ def read_names(path: str | Path, store: bytes) -> Names:
     A long file that has a line for each node in turn is only looked into.
     """
     text = read_text(path)
+    if text.count("\n") > _MOST_LINES:
+        raise Wrong(f"{path}: a file of names has at most {_MOST_LINES:,} lines")
     lines = text.rstrip("\n").split("\n")
     first = next((place for place, line in enumerate(lines) if line.startswith("node ")), len(lines))
     if len(lines) < _LONG or _node_of(lines[-1])[0] != len(lines) - first - 1:
@@ -108,7 +111,7 @@ class _LookedInto(Naming):
 
 def _read_whole(text: str, file: str, store: bytes) -> Names:
     names, said = Names(), False
-    for number, content in enumerate(text.split("\n"), 1):
+    for number, content in numbered_lines(text):
         if _take_plain_node(content, names.nodes):
             continue
         line = Line(file, number, tokens_of(content, file, number))

@@ -39,7 +39,7 @@ _ADVICE = {
 
 def sentence(call: str, number: int) -> str:
     """What the number says when this call gives it back."""
-    return _OF_CALL.get((call, number)) or _SENTENCES.get(number, "no such number is known")
+    return _OF_CALL.get((call, number), _SENTENCES.get(number, "no such number is known"))
 
 
 class Refused(Exception):

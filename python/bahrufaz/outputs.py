@@ -42,7 +42,7 @@ def inputs_of(asked: argparse.Namespace) -> list[str]:
 
 def put(path: str | None, content: bytes | str) -> None:
     """Writes to the file that is named, else to standard output."""
-    if path not in (None, STDOUT):
+    if path is not None and path != STDOUT:
         write_whole(path, content)
     elif isinstance(content, str):
         sys.stdout.write(content)

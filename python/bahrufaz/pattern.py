@@ -14,6 +14,7 @@ from .records import (
     MAX_CONDITIONS,
     MAX_LABEL,
     MAX_PATTERN_BYTES,
+    MAX_PATTERN_EDGES,
     MAX_PATTERN_NODES,
     MAX_VALUE,
     MIN_VALUE,
@@ -45,6 +46,10 @@ class Pattern:
         self.question = ""  # what a text asks: the comment that it begins with
         self._file = ""
         self._lines: dict[str | int, int] = {}  # where the text says what a label is, and what a node is
+
+    def __repr__(self) -> str:
+        asks = f": {self.question}" if self.question else ""
+        return f"<Pattern of {len(self.nodes)} nodes and {len(self.edges)} edges{asks}>"
 
     def add_node(
         self, name: str | None, label: str | int, conditions: Iterable[tuple[str, int]] = ()
@@ -135,7 +140,8 @@ class Pattern:
         """The pattern of a .pat text."""
         pattern, mistakes = cls(), Mistakes(file)
         pattern._file, pattern.question = file, _first_comment(text)
-        lines = sorted_lines(text, ("label", "node", "edge"), "label, node or edge", mistakes)
+        most = {"label": MAX_LABEL, "node": MAX_PATTERN_NODES, "edge": MAX_PATTERN_EDGES}
+        lines = sorted_lines(text, most, "label, node or edge", mistakes)
         take_lines(lines["label"], _label_line, pattern, mistakes, _stand_in_label)
         take_lines(lines["node"], _node_line, pattern, mistakes, _stand_in_node)
         take_lines(lines["edge"], _edge_line, pattern, mistakes)

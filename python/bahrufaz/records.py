@@ -17,6 +17,7 @@ MAX_N = 65_535
 MIN_VALUE, MAX_VALUE = -(1 << 31), (1 << 31) - 1
 MAX_KEY_LABELS = 3
 MAX_PATTERN_NODES = 8
+MAX_PATTERN_EDGES = 56
 MAX_PATTERN_BYTES = 264  # 24 for the header, 16 for each of 8 nodes, 2 for each of 56 edges
 MAX_STORE_BYTES = 17_301_928
 MAX_CONDITIONS = 2

@@ -2,20 +2,19 @@
 
 from __future__ import annotations
 
-import html
 import re
-from typing import Iterable, Iterator, NamedTuple, Sequence
+from typing import Iterator, NamedTuple, Sequence
 
 from . import tables
 from .calls import Listing, Plan, plan
 from .dot import DotMissing
 from .draw import draw_pattern
 from .graph import Graph
+from .markup import Markup, plain, table
 from .measuring import measure_for
 from .numbers import Refused
 from .pattern import Pattern
 from .store import AdmittedStore, Store
-from .text import visible
 from .wrong import Wrong
 
 REPORT_HEAD = "<!DOCTYPE html><!-- a report of bahrufaz -->"
@@ -50,10 +49,10 @@ class Chapter(NamedTuple):
 def report(title: str, store: Store, chapters: Sequence[Chapter], limit: int) -> str:
     """The whole page."""
     parts = [
-        f'{REPORT_HEAD}\n<html lang="en"><head><meta charset="utf-8"><title>{_text(title)}</title>',
+        f'{REPORT_HEAD}\n<html lang="en"><head><meta charset="utf-8"><title>{plain(title)}</title>',
         f'<meta name="viewport" content="width=device-width, initial-scale=1"><style>{_STYLE}</style></head><body>',
-        f"<h1>{_text(title)}</h1>",
-        f'<p class="quiet">{_text(tables.counts_text(store))}</p>',
+        f"<h1>{plain(title)}</h1>",
+        f'<p class="quiet">{plain(tables.counts_text(store))}</p>',
         _trust(store),
         _overview(chapters),
         *(_section(place, store, chapter, limit) for place, chapter in enumerate(chapters, 1)),
@@ -62,54 +61,30 @@ def report(title: str, store: Store, chapters: Sequence[Chapter], limit: int) ->
     return "\n".join(parts) + "\n"
 
 
-def _text(text: object) -> str:
-    return html.escape(visible(str(text)))
-
-
 def _trust(store: Store) -> str:
     if not isinstance(store, AdmittedStore):
-        return f'<p class="warn">{_text(tables.UNCHECKED)}</p>'
+        return f'<p class="warn">{plain(tables.UNCHECKED)}</p>'
     return (
         "<p>The store is admitted: its index is the one that building gives. So each list below has all matches of its "
         "pattern in the whole graph, and T, known before anything is read, is the most that is read for it.</p>"
     )
 
 
-def _table(head: Sequence[str], rows: Iterable[Sequence[object]], numbers: Sequence[int] = ()) -> str:
-    """A table; the columns of these numbers stand to the right. A cell that is markup already says so by its type."""
-    kinds = [' class="number"' if place in numbers else "" for place in range(len(head))]
-    heads = "".join(f"<th{kind}>{_text(name)}</th>" for kind, name in zip(kinds, head))
-    body = "".join(
-        "<tr>" + "".join(f"<td{kind}>{_cell(cell)}</td>" for kind, cell in zip(kinds, row)) + "</tr>\n" for row in rows
-    )
-    return f"<table><thead><tr>{heads}</tr></thead><tbody>\n{body}</tbody></table>"
-
-
-class _Markup(str):
-    """A text that is HTML already."""
-
-
-def _cell(cell: object) -> str:
-    if isinstance(cell, _Markup):
-        return cell
-    return f"{cell:,}" if isinstance(cell, int) else _text(cell)
-
-
 def _overview(chapters: Sequence[Chapter]) -> str:
-    return _table(("", "pattern", "question", "matches", "read", "T"), map(_overview_row, range(1, len(chapters) + 1), chapters), (3, 4, 5))
+    return table(("", "pattern", "question", "matches", "read", "T"), map(_overview_row, range(1, len(chapters) + 1), chapters), (3, 4, 5))
 
 
 def _overview_row(place: int, chapter: Chapter) -> tuple[object, ...]:
-    link = _Markup(f'<a href="#p{place}">{_text(chapter.name)}</a>')
+    link = Markup(f'<a href="#p{place}">{plain(chapter.name)}</a>')
     question = chapter.pattern.question if chapter.pattern else ""
-    if chapter.listing:
+    if chapter.listing is not None:
         return place, link, question, chapter.listing.matches, chapter.listing.entries, chapter.listing.bound
     why = f"refused with {chapter.refused.number}" if chapter.refused else "not read"
     return place, link, question, why, "", ""
 
 
 def _section(place: int, store: Store, chapter: Chapter, limit: int) -> str:
-    return "\n".join([f'<section id="p{place}"><h2>{place}. {_text(chapter.name)}</h2>', *_told(store, chapter, limit), "</section>"])
+    return "\n".join([f'<section id="p{place}"><h2>{place}. {plain(chapter.name)}</h2>', *_told(store, chapter, limit), "</section>"])
 
 
 def _told(store: Store, chapter: Chapter, limit: int) -> Iterator[str]:
@@ -118,9 +93,9 @@ def _told(store: Store, chapter: Chapter, limit: int) -> Iterator[str]:
         yield f"<pre>{_lines(chapter.wrong)}</pre>"
         return
     if chapter.pattern.question:
-        yield f"<p>{_text(chapter.pattern.question)}</p>"
+        yield f"<p>{plain(chapter.pattern.question)}</p>"
     yield _figure(chapter.pattern, store)
-    if chapter.listing:
+    if chapter.listing is not None:
         yield from _answer(chapter.listing, limit)
     elif chapter.refused:
         yield from _refusal(store, chapter.pattern, chapter.refused)
@@ -129,7 +104,7 @@ def _told(store: Store, chapter: Chapter, limit: int) -> Iterator[str]:
 
 
 def _lines(text: str) -> str:
-    return "\n".join(map(_text, text.split("\n")))
+    return "\n".join(map(plain, text.split("\n")))
 
 
 def _figure(pattern: Pattern, store: Store) -> str:
@@ -147,24 +122,18 @@ def _answer(listing: Listing, limit: int) -> Iterator[str]:
     part = 100 * listing.entries // max(listing.bound, 1)
     yield f'<p>{listing.entries:,} were read, {part} in a hundred of that.</p><div class="bar"><i style="width:{part}%"></i></div>'
     yield _steps(plan(listing.store, listing.pattern))
-    yield f"<h3>{_text(tables.matches_text(listing, limit))}</h3>"
+    yield f"<h3>{plain(tables.matches_text(listing, limit))}</h3>"
     if listing.matches:
-        yield _table(listing.pattern.node_names(), tables.listing_rows(listing, False, limit))
+        yield table(listing.pattern.node_names(), tables.listing_rows(listing, False, limit))
 
 
 def _steps(planned: Plan) -> str:
-    head = ("step", "for", "by constraint", "from", "reads at most")
-    names = planned.pattern.names
-    rows = (
-        (step, planned.what(row), planned.constraint(row), ", ".join(map(names.spelled, row.chosen)), row.figure)
-        for step, row in enumerate(planned, 1)
-    )
-    return _table(head, rows, (4,))
+    return table(("step", "for", "by constraint", "from", "reads at most"), planned.steps(), (4,))
 
 
 def _refusal(store: Store, pattern: Pattern, refused: Refused) -> Iterator[str]:
-    yield f'<p class="warn">Refused with {refused.number}: {_text(refused.sentence)}.</p>'
-    yield from (f"<p>{_text(line)}</p>" for line in f"{refused.detail}\n{refused.advice}".split("\n") if line)
+    yield f'<p class="warn">Refused with {refused.number}: {plain(refused.sentence)}.</p>'
+    yield from (f"<p>{plain(line)}</p>" for line in f"{refused.detail}\n{refused.advice}".split("\n") if line)
     if refused.number == 7:
         yield from _remedy(store, pattern)
 

@@ -7,6 +7,7 @@ from pathlib import Path
 
 from . import library
 from .files import read_most, write_together
+from .markup import plain, table
 from .names import Names
 from .namesfile import are_names_of, names_path, names_text, read_names
 from .numbers import Refused
@@ -26,6 +27,19 @@ class Store:
     def _take(self, data: bytes, names: Names | None) -> None:
         self._data = data
         self.names = names or Names()
+
+    def __repr__(self) -> str:
+        counts = ", ".join(f"{count} {name}" for name, count in self.counts._asdict().items())
+        return f"<{type(self).__name__}: {counts}, {len(self.data)} bytes>"
+
+    def _repr_html_(self) -> str:
+        """What a notebook shows: the constraints, and how near their lists are to N."""
+        names = self.names
+        rows = (
+            (names.key(one.key_labels), names.labels.name(one.label), one.most, keys, longest)
+            for one, (keys, longest, _) in zip(self.constraints, self.longest_lists())
+        )
+        return f"<p>{plain(repr(self)[1:-1])}</p>{table(('for each', 'of', 'at most', 'lists', 'longest'), rows, (2, 3, 4))}"
 
     @property
     def data(self) -> bytes:

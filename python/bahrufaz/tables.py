@@ -18,11 +18,13 @@ UNCHECKED = "unchecked: whether this store is admitted was not asked, so matches
 
 def table(head: Sequence[str], rows: Iterable[Sequence[object]]) -> Iterator[str]:
     """Columns under their heads; columns of numbers stand to the right. The rows are gone through twice."""
-    rows = rows if isinstance(rows, _Again) else list(rows)
+    again: Iterable[Sequence[object]] = rows
+    if not isinstance(rows, _Again):
+        again = list(rows)
     shown = [visible(cell) for cell in head]
     widths, right = [text_width(cell) for cell in shown], [False] * len(head)
     words = [False] * len(head)
-    for row in rows:
+    for row in again:
         for at, cell in enumerate(row):
             text = str(cell)
             if isinstance(cell, int):
@@ -33,7 +35,7 @@ def table(head: Sequence[str], rows: Iterable[Sequence[object]]) -> Iterator[str
             if width > widths[at]:
                 widths[at] = width
     sides = [number and not word for number, word in zip(right, words)]
-    for row in itertools.chain([shown], rows):
+    for row in itertools.chain([shown], again):
         yield "  ".join(map(_in_column, row, widths, sides)).rstrip()
 
 

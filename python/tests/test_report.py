@@ -106,6 +106,12 @@ class Report(CommandCase):
         page = self.report("a.pat", store="draft.bin", more=("--unchecked",))
         self.assertTrue(any(text.startswith("unchecked: ") for text in page.texts))
 
+    def test_no_match_is_an_answer(self):
+        Path("none.pat").write_text("node a locale value > 7\n")
+        page = self.report("none.pat")
+        self.assertIn("no match", page.texts)
+        self.assertNotIn("not read", page.texts)
+
     def test_names_are_text_and_never_markup(self):
         Path("w.feed").write_text('label "<b>&" 1\nnode "<script>alert(1)</script>" 1\nconstraint -> 1 at most 1\n')
         Path("x.pat").write_text("# <i>who</i> & why?\nnode \"<u>\" \"<b>&\"\n")

@@ -13,12 +13,18 @@ from pathlib import Path
 
 from bahrufaz import Graph
 
+try:
+    import resource
+except ImportError:  # where there is no such limit
+    resource = None
+
 from .commands import CommandCase
 from .worlds import CHECKOUT, pattern_a, small_world
 
 
-def run(*arguments: str, given: bytes = b"", **environment: str) -> subprocess.CompletedProcess:
+def run(*arguments: str, given: bytes = b"", bounded: int = 0, **environment: str) -> subprocess.CompletedProcess:
     """Runs the command in a process of its own, where it has real standard input and output."""
+    bound = (lambda: resource.setrlimit(resource.RLIMIT_AS, (bounded, bounded))) if bounded else None
     return subprocess.run(
         [sys.executable, "-m", "bahrufaz", *arguments],
         input=given,
@@ -26,6 +32,7 @@ def run(*arguments: str, given: bytes = b"", **environment: str) -> subprocess.C
         env={"PATH": os.environ["PATH"], "PYTHONPATH": str(CHECKOUT / "python"), **environment},
         check=False,
         timeout=120,
+        preexec_fn=bound,
     )
 
 
@@ -116,6 +123,16 @@ class MadeToHurt(CommandCase):
     def test_one_endless_line(self):
         Path("line.feed").write_text("label x\nnode " + "n" * 3_000_000)
         self.assert_status(2, "line.feed:2: a line has at most 100,000 characters, and this has 3,000,005", "build", "line.feed", "-o", "x.store")
+
+    @unittest.skipUnless(resource, "memory cannot be bounded here")
+    def test_memory_is_bounded_for_many_lines(self):
+        for name, line in {"same.feed": b"node a x\n", "junk.feed": b"ab\n", "empty.feed": b"\n", "edges.feed": b"edge a -> b\n"}.items():
+            Path(name).write_bytes(b"label x\n" + line * ((30 << 20) // len(line)))
+            done = run("build", name, "-o", "x.store", bounded=400 << 20)
+            self.assertEqual(done.returncode, 2, (name, done.stderr[-300:]))
+            self.assertIn(name.encode(), done.stderr)
+            self.assertNotIn(b"memory", done.stderr)
+            os.remove(name)
 
     def test_a_name_of_a_megabyte(self):
         name = "n" * (1 << 20)

@@ -170,7 +170,7 @@ class FeedErrors(unittest.TestCase):
 
     def test_limits_of_a_store(self):
         lines = "".join(f"constraint -> {label} at most 1\n" for label in range(1, 34))
-        with self.assertRaisesRegex(WrongText, "^w:33: a store has at most 32 constraints$"):
+        with self.assertRaisesRegex(WrongText, "^w:33: there are at most 32 constraint lines$"):
             Graph.of_text(lines + "no nodes", "w")
         graph = Graph()
         graph.nodes = [(1, 0)] * 65_535
@@ -240,7 +240,7 @@ class PatternErrors(unittest.TestCase):
         self.assert_error("node a x\nedge a -> a", "2: an edge joins two different nodes, and a -> a does not")
         self.assert_error("node a 0", "1: expected a label, a whole number from 1 to 65,535, found '0'")
         nine = "".join(f"node n{place} x\n" for place in range(9))
-        self.assert_error(nine, "9: a pattern has at most 8 nodes")
+        self.assert_error(nine, "9: there are at most 8 node lines")
 
     def test_labels_come_from_the_graph_or_the_pattern(self):
         names = small_world().names
