@@ -4,6 +4,7 @@ from __future__ import annotations
 
 import argparse
 import codecs
+import contextlib
 import json
 import os
 import sys
@@ -20,6 +21,7 @@ from .progress import working
 from .reading import (
     STDIN,
     about,
+    by_content,
     bytes_of,
     check_store_bytes,
     graph_of,
@@ -48,7 +50,7 @@ def main(given: Sequence[str] | None = None) -> int:
     try:
         asked = arguments.parser().parse_args(given)
         as_json = getattr(asked, "json", False)
-        _check_stdin(asked)
+        _check_streams(asked)
         status = _COMMANDS[asked.command](asked)
         sys.stdout.flush()
         return status
@@ -56,12 +58,14 @@ def main(given: Sequence[str] | None = None) -> int:
         _tell_refusal(refused, as_json)
         return REFUSED
     except BrokenPipeError:  # the reader has seen enough
-        os.dup2(os.open(os.devnull, os.O_WRONLY), sys.stdout.fileno())
+        _abandon_stdout()
         return ANSWERED
     except KeyboardInterrupt:
         return INTERRUPTED
     except OSError as error:
-        complain(f"{error.filename or 'file'}: {error.strerror or error}")
+        if not error.filename:
+            _abandon_stdout()
+        complain(f"{error.filename or 'standard output'}: {error.strerror or error}")
     except MemoryError as error:
         complain(str(error) or "there is not enough memory for this")
     except Wrong as error:
@@ -69,9 +73,17 @@ def main(given: Sequence[str] | None = None) -> int:
     return WRONG_USE
 
 
+def _abandon_stdout() -> None:
+    """What could not be written is not tried again at the end."""
+    with contextlib.suppress(OSError):
+        os.dup2(os.open(os.devnull, os.O_WRONLY), sys.stdout.fileno())
+
+
 def _prepare_streams() -> None:
     """What a terminal cannot show is written as in JSON; files and pipes get UTF-8, as the text forms are."""
     codecs.register_error("as in JSON", _as_in_json)
+    if sys.stderr is None:  # closed: what would be said there is not said
+        sys.stderr = open(os.devnull, "w", encoding="utf-8")
     for stream in (sys.stdout, sys.stderr):
         if hasattr(stream, "reconfigure"):
             stream.reconfigure(encoding=None if stream.isatty() else "utf-8", errors="as in JSON")
@@ -84,7 +96,9 @@ def _as_in_json(error: UnicodeError) -> tuple[str, int]:
     return json.dumps(error.object[error.start : error.end])[1:-1], error.end
 
 
-def _check_stdin(asked: argparse.Namespace) -> None:
+def _check_streams(asked: argparse.Namespace) -> None:
+    if sys.stdout is None:
+        raise Wrong("standard output is closed")
     if outputs.inputs_of(asked).count(STDIN) > 1:
         raise Wrong("standard input can be read once: '-' stands for one file")
 
@@ -133,8 +147,8 @@ def _built(asked: argparse.Namespace) -> Store:
     """The store, or the draft if that is asked for, of the text of a graph or of a draft."""
     path, data = asked.graph, None
     if not is_feed(path) and not is_pat(path):
-        data = bytes_of(path, MAX_STORE_BYTES)
-        if path != STDIN or outputs.is_store(data):
+        data = bytes_of(path, MAX_TEXT_BYTES if by_content(path) else MAX_STORE_BYTES)
+        if not by_content(path) or outputs.is_store(data):
             if asked.draft:
                 raise Wrong(f"--draft makes a draft of a .feed file, and {shown(path)} is none")
             draft = store_of_bytes(path, data, asked)

@@ -93,7 +93,10 @@ class _Through(_Replacement):
         self._place, self._data = place, data
 
     def replace(self) -> None:
-        self._place.write_bytes(self._data)
+        try:
+            self._place.write_bytes(self._data)
+        except OSError as error:
+            raise type(error)(error.errno, error.strerror, str(self._place)) from None
 
     def put_back(self) -> None:
         pass

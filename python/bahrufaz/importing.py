@@ -10,7 +10,7 @@ from typing import Any, Callable, Iterator, NamedTuple, Sequence
 from .graph import Graph
 from .graphml import read_graphml
 from .lines import Token
-from .reading import STDIN, bytes_of, shown
+from .reading import by_content, bytes_of, shown
 from .text import MAX_TEXT_BYTES, shortened, text_of
 from .wrong import Wrong, WrongGraph, WrongName, WrongText
 
@@ -74,7 +74,7 @@ def _whole(value: str | None) -> int:
 def import_file(file: str, nodes: str | None, label: str | None, keys: Keys) -> Imported:
     """A graph from a file: GraphML if its name or its beginning says so, else an edge list in CSV."""
     data = bytes_of(file, MAX_TEXT_BYTES)
-    if Path(file).suffix in _GRAPHML or (file == STDIN and data.lstrip()[:1] == b"<"):
+    if Path(file).suffix in _GRAPHML or (by_content(file) and data.lstrip()[:1] == b"<"):
         return _import_graphml(data, shown(file), label, keys)
     return _import_csv(text_of(data, shown(file)), shown(file), nodes, label, keys)
 

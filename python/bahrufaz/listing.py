@@ -107,6 +107,8 @@ class Counted(NamedTuple):
 
 def _count_command(asked: argparse.Namespace, emit: Emit, complain: Complain) -> int:
     """A line for each pattern: its answer, and how much was found and read."""
+    if asked.ids or asked.limit is not None:
+        raise Wrong("--count shows no matches: leave out --ids and --limit")
     store = trusted_store(asked)
     rows = list(map(_counted, chapters(asked, store)))
     head = ("pattern", "answer", "matches", "read", "T", "why" if asked.csv else "")

@@ -10,7 +10,7 @@ from pathlib import Path
 from typing import Iterator
 
 from . import library
-from .files import read_most
+from .files import is_special, read_most
 from .graph import Graph
 from .names import Names
 from .namesfile import NAMES_HEAD, names_path, read_names
@@ -33,7 +33,16 @@ def shown(path: str) -> str:
 
 def bytes_of(path: str, most: int) -> bytes:
     """The bytes of a file or of standard input, at most one more than there may be."""
-    return sys.stdin.buffer.read(most + 1) if path == STDIN else read_most(path, most)
+    if path != STDIN:
+        return read_most(path, most)
+    if sys.stdin is None:
+        raise Wrong("standard input is closed")
+    return sys.stdin.buffer.read(most + 1)
+
+
+def by_content(path: str) -> bool:
+    """Whether what is read has no name that says what it is: standard input, or another pipe."""
+    return path == STDIN or is_special(path)
 
 
 def kind_of(data: bytes) -> str:
@@ -64,7 +73,7 @@ def _refuse_kind(path: str, kind: str, wanted: str, order: str) -> None:
     hint = f": {order}" if order else ""
     if kind == "text":
         ending = ".pat" if wanted == "a pattern" else ".feed"
-        hint = f": name it {Path(path).stem}{ending}" if path != STDIN else ""
+        hint = f": name it {Path(path).stem}{ending}"
     raise Wrong(f"{shown(path)} is {kind}, and {wanted} is asked for{hint}")
 
 
@@ -93,8 +102,8 @@ def store_of(asked: argparse.Namespace, built: bool = True) -> Store:
     if is_pat(path):
         _refuse_kind(path, "the text of a pattern", "a store or a .feed file", order_of(asked))
     if not is_feed(path):
-        data = bytes_of(path, MAX_TEXT_BYTES if path == STDIN else MAX_STORE_BYTES)
-        if path != STDIN or kind_of(data) != "text":
+        data = bytes_of(path, MAX_TEXT_BYTES if by_content(path) else MAX_STORE_BYTES)
+        if not by_content(path) or kind_of(data) != "text":
             return store_of_bytes(path, data, asked)
         graph = graph_of(path, data)
     else:
@@ -151,9 +160,9 @@ def pattern_of(path: str, order: str = "") -> Pattern:
         _refuse_kind(path, "the text of a graph", "a pattern", order)
     if is_pat(path):
         return Pattern.read(path)
-    data = bytes_of(path, MAX_TEXT_BYTES if path == STDIN else MAX_STORE_BYTES)
+    data = bytes_of(path, MAX_TEXT_BYTES if by_content(path) else MAX_STORE_BYTES)
     kind = kind_of(data)
-    if path == STDIN and kind == "text":
+    if by_content(path) and kind == "text":
         return Pattern.of_text(text_of(data, shown(path)), shown(path))
     if kind not in ("", "a pattern"):
         _refuse_kind(path, kind, "a pattern", order)

@@ -66,6 +66,21 @@ class Streams(CommandCase):
         graphml = b'<graphml><graph><node id="a"/></graph></graphml>'
         self.assertIn(b"node a  x", run("import", "-", "--label", "x", "-o", "-", given=graphml).stdout)
 
+    @unittest.skipUnless(os.path.exists("/dev/fd") and os.path.exists("/dev/full"), "there are no such devices here")
+    def test_pipes_with_names_closed_streams_and_full_disks(self):
+        def shell(command: str) -> tuple[int, str]:
+            environment = {"PATH": f"{CHECKOUT / 'bin'}:{os.environ['PATH']}"}
+            done = subprocess.run(["bash", "-c", command], capture_output=True, env=environment, check=False)
+            return done.returncode, (done.stdout + done.stderr).decode()
+
+        expected = self.answer("list", "world.feed", "a.pat")
+        self.assertEqual(shell("bahrufaz list <(cat world.feed) <(cat a.pat)"), (0, expected))
+        self.assertEqual(shell("bahrufaz list world.feed a.pat >&-"), (2, "bahrufaz: standard output is closed\n"))
+        self.assertEqual(shell("bahrufaz list - a.pat <&-"), (2, "bahrufaz: standard input is closed\n"))
+        self.assertEqual(shell("bahrufaz list none.feed a.pat 2>&-"), (2, ""))
+        self.assertEqual(shell("bahrufaz list world.feed a.pat >/dev/full")[0], 2)
+        self.assertEqual(shell("bahrufaz build world.feed --draft -o /dev/full"), (2, "bahrufaz: /dev/full: No space left on device\n"))
+
     def test_bytes_of_a_pattern_to_standard_output(self):
         self.assertEqual(run("pattern", "a.pat", "world.feed", "-o", "-").stdout, pattern_a().encode())
 
@@ -196,6 +211,7 @@ class Lists(CommandCase):
         rows = list(csv.DictReader(io.StringIO(self.run_command("list", "--count", "--csv", "world.feed", *paths)[1])))
         self.assertEqual([row["matches"] for row in rows], ["1", "", "", ""])
         self.assert_status(2, "not allowed with argument", "list", "--json", "--csv", "world.feed", "a.pat")
+        self.assert_status(2, "--count shows no matches", "list", "--count", "--limit", "1", "world.feed", "a.pat")
 
     def test_compare(self):
         Path("some.pat").write_text("node f field value > 100\nnode s format\nedge f -> s\nnode l locale\nedge l -> s\n")

@@ -1,10 +1,12 @@
 """The text forms: what is read, what is written back, and what errors say."""
 
+import random
 import tempfile
 import unittest
 from pathlib import Path
+from unittest import mock
 
-from bahrufaz import Graph, Names, Pattern, Store, WrongGraph, WrongName, WrongText
+from bahrufaz import Graph, Names, Pattern, Store, WrongGraph, WrongName, WrongText, feed
 from bahrufaz.files import write_whole
 from bahrufaz.namesfile import names_path, names_text, read_names
 from bahrufaz.text import aligned, spelled
@@ -73,6 +75,34 @@ class RoundTrips(unittest.TestCase):
 
     def test_wide_characters_stand_in_columns(self):
         self.assertEqual(aligned([("重量", "1"), ("weight", "2")]), ["重量    1", "weight  2"])
+
+
+def told(text: str) -> object:
+    """What a text gives: a draft with its names, or its mistakes."""
+    try:
+        graph = Graph.of_text(text)
+    except WrongText as error:
+        return str(error)
+    return graph.draft(), graph.names.nodes.items(), graph.names.labels.items()
+
+
+def random_spelling(seed: int) -> str:
+    """The text of a random world with blanks, comments and quotes as people type them, and now and then a mistake."""
+    draw = random.Random(seed)
+    lines = random_world(seed).text().split("\n")
+    for place in draw.sample(range(len(lines)), len(lines) // 3):
+        line = lines[place]
+        lines[place] = draw.choice(
+            [
+                f"  {line}\t # said",
+                line.replace(" -> ", draw.choice(["->", " →  ", "  ->\t", " - > ", " -> -> "])),
+                line.replace("value = ", draw.choice(["value=", "value =  ", "value == ", "value = -"])),
+                line.replace("node ", draw.choice(["node\t ", "node", "nodes ", 'node"x"'])),
+                f"{line} {draw.choice(['more', '#', '1', chr(34)])}",
+                line[: draw.randrange(len(line) + 1)],
+            ]
+        )
+    return "\n".join(lines)
 
 
 class FeedErrors(unittest.TestCase):
@@ -163,6 +193,13 @@ class FeedErrors(unittest.TestCase):
             with self.assertRaises(WrongText) as caught:
                 Graph.of_text(self.HEAD + line, "w.feed")
             self.assertEqual(str(caught.exception), f"w.feed:6: {message}")
+
+    def test_lines_as_they_mostly_are_are_read_as_word_by_word(self):
+        for seed in range(150):
+            text = random_spelling(seed)
+            quick = told(text)
+            with mock.patch.object(feed, "_quick_node", return_value=False), mock.patch.object(feed, "_quick_edge", return_value=False):
+                self.assertEqual(told(text), quick, text)
 
     def test_a_near_name_is_hinted_at(self):
         with self.assertRaisesRegex(WrongText, "^w:2: no label is named feild; did you mean field\\?$"):
