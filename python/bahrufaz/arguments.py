@@ -3,9 +3,10 @@
 from __future__ import annotations
 
 import argparse
-from typing import Callable
+from typing import Any, Callable
 
 from . import __version__, library
+from .text import shortened
 from .wrong import LibraryMissing
 
 
@@ -13,7 +14,8 @@ def parser() -> argparse.ArgumentParser:
     whole = argparse.ArgumentParser(
         prog="bahrufaz",
         description="Lists the matches of a pattern in a graph store, and says beforehand how much it will read.",
-        epilog="Exit status: 0 answered, 1 refused, 2 wrong use. 'bahrufaz COMMAND --help' has an example of each.",
+        epilog="A file named - is standard input, or output after -o. Exit status: 0 answered, 1 refused, 2 wrong use. "
+        "'bahrufaz COMMAND --help' has an example of each.",
     )
     whole.add_argument("--version", action=_Version, nargs=0, help="the version, and which library is loaded")
     commands = whole.add_subparsers(dest="command", title="commands", metavar="COMMAND", required=True)
@@ -41,12 +43,12 @@ class _Version(argparse.Action):
 
 def _count(text: str) -> int:
     """A whole number that is not negative."""
-    if not text.isascii() or not text.isdigit():
-        raise argparse.ArgumentTypeError(f"expected a whole number, found '{text}'")
+    if not text.isascii() or not text.isdigit() or len(text) > 18:
+        raise argparse.ArgumentTypeError(f"expected a whole number, found '{shortened(text)}'")
     return int(text)
 
 
-def _add_store(command: argparse.ArgumentParser, nargs: str | None = None) -> None:
+def _add_store(command: argparse.ArgumentParser, nargs: Any = None) -> None:
     command.add_argument(
         "store", nargs=nargs, metavar="STORE", help="a store; or a .feed file, which is built without being kept"
     )
@@ -59,7 +61,7 @@ def _add_names(command: argparse.ArgumentParser) -> None:
     group.add_argument("--no-names", action="store_true", help="show ids and label numbers")
 
 
-def _add_pattern(command: argparse.ArgumentParser, nargs: str | None = None) -> None:
+def _add_pattern(command: argparse.ArgumentParser, nargs: Any = None) -> None:
     command.add_argument(
         "pattern", metavar="PATTERN", nargs=nargs, help="a .pat file; any other is read as the bytes of a pattern"
     )
@@ -103,13 +105,45 @@ def _add_plan(command: argparse.ArgumentParser) -> None:
     _add_json(command)
 
 
+def _add_forms(command: argparse.ArgumentParser) -> None:
+    forms = command.add_mutually_exclusive_group()
+    forms.add_argument("--json", action="store_true", help="answer in JSON, refusals too")
+    forms.add_argument("--csv", action="store_true", help="the rows as CSV")
+
+
 def _add_list(command: argparse.ArgumentParser) -> None:
     _add_store(command)
     _add_pattern(command, "+")
-    _add_json(command)
-    command.add_argument("--csv", action="store_true", help="the rows as CSV")
+    _add_forms(command)
     command.add_argument("--ids", action="store_true", help="node ids in place of names")
+    command.add_argument("--limit", type=_count, metavar="N", help="show the first N matches")
     command.add_argument("--count", action="store_true", help="only how many, a line for each of many patterns")
+    _add_unchecked(command)
+    _add_room(command)
+
+
+def _add_compare(command: argparse.ArgumentParser) -> None:
+    _add_store(command)
+    command.add_argument("first", metavar="PATTERN", help="a .pat file, as the list that was")
+    command.add_argument("second", metavar="PATTERN", help="another, as the list that should be")
+    command.add_argument(
+        "--by",
+        action="append",
+        default=[],
+        metavar="NODE",
+        help="compare by this pattern node, or by several with commas between them; else by all that both have",
+    )
+    _add_forms(command)
+    _add_unchecked(command)
+    _add_room(command)
+
+
+def _add_report(command: argparse.ArgumentParser) -> None:
+    _add_store(command)
+    _add_pattern(command, "+")
+    command.add_argument("-o", "--output", required=True, metavar="HTML", help="the page, a single file")
+    command.add_argument("--limit", type=_count, default=200, metavar="N", help="show the first N matches of each (%(default)s)")
+    _add_force(command)
     _add_unchecked(command)
     _add_room(command)
 
@@ -145,7 +179,9 @@ def _add_draw(command: argparse.ArgumentParser) -> None:
     )
     command.add_argument("-o", "--output", metavar="FILE", help=".dot, .svg, .png or .pdf; else DOT on standard output")
     command.add_argument("--most", type=_count, default=50, metavar="N", help="draw the first N matches (%(default)s)")
-    command.add_argument("--near", type=_count, default=3, metavar="N", help="draw N neighbours of each node (%(default)s)")
+    command.add_argument(
+        "--near", type=_count, metavar="N", help="draw N neighbours of each node (3 round up to 8 matches, else none)"
+    )
     _add_force(command)
     _add_unchecked(command)
     _add_room(command)
@@ -163,7 +199,12 @@ def _add_import(command: argparse.ArgumentParser) -> None:
 
 
 def _add_measure(command: argparse.ArgumentParser) -> None:
-    command.add_argument("graph", metavar="FEED", help="a .feed file; its own constraints are not looked at")
+    command.add_argument("graph", metavar="FEED", help="a .feed file; the constraints that it has stay as they are")
+    command.add_argument(
+        "--for", dest="patterns", nargs="+", metavar="PATTERN", help="only the few that these patterns need to be covered"
+    )
+    command.add_argument("-o", "--output", metavar="FEED", help="write the graph with them into this .feed file")
+    _add_force(command)
 
 
 # what each command takes, what it does, and an example
@@ -175,6 +216,16 @@ _COMMANDS: dict[str, tuple[Callable[[argparse.ArgumentParser], None], str, str]]
         _add_list,
         "list the matches of a pattern",
         "bahrufaz list world.store a.pat\nbahrufaz list --csv world.store a.pat >a.csv",
+    ),
+    "compare": (
+        _add_compare,
+        "show what one pattern lists and another does not",
+        "bahrufaz compare world.store old.pat new.pat --by field",
+    ),
+    "report": (
+        _add_report,
+        "make a page to read and print: a checklist of patterns, each with its picture, its plan and its matches",
+        "bahrufaz report world.store *.pat -o report.html",
     ),
     "show": (_add_show, "show what is in a store", "bahrufaz show world.store"),
     "draw": (
@@ -190,8 +241,8 @@ _COMMANDS: dict[str, tuple[Callable[[argparse.ArgumentParser], None], str, str]]
     ),
     "measure": (
         _add_measure,
-        "print constraints that hold in a graph today, each with its smallest N",
-        "bahrufaz measure world.feed",
+        "find constraints that hold in a graph today, each with its smallest N",
+        "bahrufaz measure world.feed\nbahrufaz measure world.feed --for a.pat -o measured.feed",
     ),
     "text": (_add_text, "write a store back as text", "bahrufaz text world.store -o world.feed"),
     "pattern": (

@@ -2,13 +2,17 @@
 
 from __future__ import annotations
 
+import itertools
 from typing import Iterator, NamedTuple
 
 from . import library
+from .markup import plain, table
 from .pattern import Pattern
 from .records import NO_CHOSEN
 from .store import AdmittedStore, Store
 from .wrong import Wrong
+
+_SHOWN = 50  # matches that a notebook shows
 
 
 class Row(NamedTuple):
@@ -40,6 +44,17 @@ class Plan:
     def __repr__(self) -> str:
         return f"<Plan: T = {self.bound}, {len(self)} steps>"
 
+    def _repr_html_(self) -> str:
+        """What a notebook shows."""
+        head = ("step", "for", "by constraint", "from", "reads at most")
+        return f"<p>T = {self.bound:,}</p>{table(head, self.steps(), (4,))}"
+
+    def steps(self) -> Iterator[tuple[int, str, str, str, int]]:
+        """Each row by name: its step, what it is for, by which constraint, from which nodes, and its figure."""
+        for step, row in enumerate(self.rows, 1):
+            chosen = ", ".join(map(self.pattern.names.spelled, row.chosen))
+            yield step, self.what(row), self.constraint(row), chosen, row.figure
+
     def what(self, row: Row) -> str:
         """The pattern node or edge of a row, by name."""
         names = self.pattern.names
@@ -61,6 +76,7 @@ class Listing:
     def __init__(self, store: Store, pattern: Pattern, listed: library.Listed):
         self.store, self.pattern = store, pattern
         self.matches, self.node_entries, self.edge_entries, self.bound, self.rows = listed
+        self._columns = pattern.node_names()
 
     def __len__(self) -> int:
         return self.matches
@@ -74,6 +90,12 @@ class Listing:
     def __repr__(self) -> str:
         checked = "" if self.admitted else ", unchecked"
         return f"<Listing: {self.matches} matches, {self.entries} entries read of at most {self.bound}{checked}>"
+
+    def _repr_html_(self) -> str:
+        """What a notebook shows: the first matches."""
+        rows = (list(match.values()) for match in itertools.islice(self, _SHOWN))
+        more = f"<p>{self.matches - _SHOWN:,} more</p>" if self.matches > _SHOWN else ""
+        return f"<p>{plain(repr(self)[1:-1])}</p>{table(self._columns, rows)}{more}"
 
     @property
     def admitted(self) -> bool:
@@ -90,7 +112,7 @@ class Listing:
         return map(self._by_name, self.rows)
 
     def _by_name(self, row: tuple[int, ...]) -> dict[str, str]:
-        return dict(zip(self.pattern.node_names(), map(self.store.names.nodes.name, row)))
+        return dict(zip(self._columns, map(self.store.names.nodes.name, row)))
 
 
 def plan(store: Store, pattern: Pattern) -> Plan:

@@ -3,302 +3,308 @@
 from __future__ import annotations
 
 import argparse
+import codecs
+import contextlib
+import json
 import os
 import sys
 from pathlib import Path
-from typing import Sequence
+from typing import Iterable, Sequence
 
-from . import arguments, calls, draw, importing, library, outputs, tables
-from .files import write_whole
+from . import arguments, calls, draw, importing, listing, outputs, tables
+from .dot import Picture
 from .graph import Graph
-from .measure import measured
-from .names import Names, read_names
+from .measuring import measure, measure_for
+from .names import Names
 from .numbers import Refused
-from .pattern import Pattern
-from .records import draft_of
+from .progress import working
+from .reading import (
+    STDIN,
+    about,
+    by_content,
+    bytes_of,
+    check_store_bytes,
+    graph_of,
+    is_feed,
+    is_pat,
+    names_hint,
+    order_of,
+    pattern_of,
+    shown,
+    store_of,
+    store_of_bytes,
+)
+from .records import MAX_CONSTRAINTS, MAX_STORE_BYTES
 from .store import AdmittedStore, Store
+from .text import MAX_TEXT_BYTES, visible_lines
 from .wrong import Wrong
 
 ANSWERED, REFUSED, WRONG_USE = 0, 1, 2
 INTERRUPTED = 130
-_INPUTS = ("graph", "store", "pattern", "file", "nodes", "names")  # the arguments that name a file to be read
 
 
 def main(given: Sequence[str] | None = None) -> int:
     """Runs one command; 0 answered, 1 refused, 2 wrong use."""
-    asked = arguments.parser().parse_args(given)
+    _prepare_streams()
+    as_json = False
     try:
+        asked = arguments.parser().parse_args(given)
+        as_json = getattr(asked, "json", False)
+        _check_streams(asked)
         status = _COMMANDS[asked.command](asked)
         sys.stdout.flush()
         return status
     except Refused as refused:
-        _tell_refusal(refused, getattr(asked, "json", False))
+        _tell_refusal(refused, as_json)
         return REFUSED
     except BrokenPipeError:  # the reader has seen enough
-        os.dup2(os.open(os.devnull, os.O_WRONLY), sys.stdout.fileno())
+        _abandon_stdout()
         return ANSWERED
     except KeyboardInterrupt:
         return INTERRUPTED
     except OSError as error:
-        _complain(f"{error.filename or 'file'}: {error.strerror or error}")
-    except (Wrong, MemoryError) as error:
-        _complain(str(error))
+        if not error.filename:
+            _abandon_stdout()
+        complain(f"{error.filename or 'standard output'}: {error.strerror or error}")
+    except MemoryError as error:
+        complain(str(error) or "there is not enough memory for this")
+    except Wrong as error:
+        complain(str(error))
     return WRONG_USE
 
 
-def _complain(message: str) -> None:
-    print(f"bahrufaz: {message}", file=sys.stderr)
+def _abandon_stdout() -> None:
+    """What could not be written is not tried again at the end."""
+    with contextlib.suppress(OSError):
+        os.dup2(os.open(os.devnull, os.O_WRONLY), sys.stdout.fileno())
+
+
+def _prepare_streams() -> None:
+    """What a terminal cannot show is written as in JSON; files and pipes get UTF-8, as the text forms are."""
+    codecs.register_error("as in JSON", _as_in_json)
+    if sys.stderr is None:  # closed: what would be said there is not said
+        sys.stderr = open(os.devnull, "w", encoding="utf-8")
+    for stream in (sys.stdout, sys.stderr):
+        if hasattr(stream, "reconfigure"):
+            stream.reconfigure(encoding=None if stream.isatty() else "utf-8", errors="as in JSON")
+
+
+def _as_in_json(error: UnicodeError) -> tuple[str, int]:
+    """What cannot be written, in the escapes of JSON."""
+    if not isinstance(error, UnicodeEncodeError):
+        raise error
+    return json.dumps(error.object[error.start : error.end])[1:-1], error.end
+
+
+def _check_streams(asked: argparse.Namespace) -> None:
+    if sys.stdout is None:
+        raise Wrong("standard output is closed")
+    if outputs.inputs_of(asked).count(STDIN) > 1:
+        raise Wrong("standard input can be read once: '-' stands for one file")
+
+
+def complain(message: str) -> None:
+    for line in visible_lines(message).split("\n"):
+        print(f"bahrufaz: {line}", file=sys.stderr)
 
 
 def _tell_refusal(refused: Refused, as_json: bool) -> None:
     if as_json:
-        print(tables.refusal_json(refused))
-    _complain(str(refused))
-    for line in f"{refused.detail}\n{refused.advice}".split("\n"):
+        emit(tables.refusal_json(refused))
+    complain(str(refused))
+    for line in visible_lines(f"{refused.detail}\n{refused.advice}").split("\n"):
         if line:
             print(f"  {line}", file=sys.stderr)
 
 
-# What the commands read.
+def emit(lines: Iterable[str]) -> None:
+    """Prints lines as they are made."""
+    sys.stdout.writelines(f"{line}\n" for line in lines)
 
 
-def _is_text(path: str, suffix: str) -> bool:
-    return Path(path).suffix == suffix
-
-
-def _refuse_text(path: str, suffix: str, wanted: str) -> None:
-    """A text of another kind is no bytes."""
-    if _is_text(path, suffix):
-        raise Wrong(f"{path} is a text, and {wanted} is asked for")
-
-
-def _store(asked: argparse.Namespace, built: bool = True) -> Store:
-    """The store that is asked about; a .feed file is built first, or taken as a draft."""
-    _refuse_text(asked.store, ".pat", "a store or a .feed file")
-    if _is_text(asked.store, ".feed"):
-        graph = Graph.read(asked.store)
-        return graph.build() if built else Store(graph.draft(), graph.names)
-    return _read_store(asked.store, asked)
-
-
-def _read_store(path: str, asked: argparse.Namespace) -> Store:
-    """The store or draft of a file of bytes, with the names that are asked for."""
-    if asked.no_names:
-        return Store.read(path, Names())
-    if not asked.names:
-        return Store.read(path)
-    data = Path(path).read_bytes()
-    return Store(data, _names(asked.names, data))
-
-
-def _trusted_store(asked: argparse.Namespace) -> Store:
-    """The store, admitted: what is told of any other may lack matches, so that has to be asked for."""
-    store = _store(asked)
-    if asked.unchecked:
-        return store
-    try:
-        return store.admit()
-    except Refused as refused:
-        refused.advice += "\nto go on with what is there, though matches may be missing, give --unchecked"
-        raise
-
-
-def _listing(asked: argparse.Namespace, store: Store, pattern: Pattern) -> calls.Listing:
-    listed = calls.list_matches if isinstance(store, AdmittedStore) else calls.list_unchecked
-    return listed(store, pattern, asked.room)
-
-
-def _warn_unchecked(store: Store) -> None:
-    """For answers that a program or a picture viewer reads, beside the answer itself."""
-    if not isinstance(store, AdmittedStore):
-        _complain(tables.UNCHECKED)
-
-
-def _read_pattern(path: str) -> Pattern:
-    _refuse_text(path, ".feed", "a pattern")
-    return Pattern.read(path)
-
-
-def _names(path: str, store: bytes) -> Names:
-    """The names of a store from a .names file of its own, or from the .feed file it was built from."""
-    if not _is_text(path, ".feed"):
-        return read_names(path, store)
-    library.check_header(store)
-    graph = Graph.read(path)
-    if graph.draft() != draft_of(store):
-        raise Wrong(f"{path} is not the graph of the store: build the store again from it")
-    return graph.names
-
-
-# The commands.
+def _say(asked: argparse.Namespace, told: str) -> None:
+    """Says what was written; beside the answer where that goes to standard output."""
+    to_stdout = asked.output == outputs.STDOUT
+    print(f"{'standard output' if to_stdout else asked.output}: {told}", file=sys.stderr if to_stdout else sys.stdout)
 
 
 def _build(asked: argparse.Namespace) -> int:
-    _refuse_text(asked.graph, ".pat", "a graph")
-    outputs.check_bytes(asked.output, outputs.STORE, _inputs(asked), asked.force)
-    store = _built(asked)
-    if store.names:
-        outputs.check_names(asked.output, _inputs(asked), asked.force)
-    names = store.write(asked.output)
-    print(f"{asked.output}: {tables.counts_text(store)}" + (f"; names in {names}" if names else ""))
+    outputs.check_bytes(asked, outputs.STORE)
+    with working(f"building {shown(asked.graph)}"):
+        store = _built(asked)
+    if asked.output == outputs.STDOUT:
+        outputs.put(asked.output, store.data)
+        names = None
+    else:
+        if store.names:
+            outputs.check_names(asked)
+        names = store.write(asked.output)
+    _say(asked, f"{tables.counts_text(store)}" + (f"; names in {names}" if names else ""))
     return ANSWERED
 
 
 def _built(asked: argparse.Namespace) -> Store:
-    """The store, or the draft if that is asked for, of a .feed file or of a draft."""
-    if _is_text(asked.graph, ".feed"):
-        graph = Graph.read(asked.graph)
+    """The store, or the draft if that is asked for, of the text of a graph or of a draft."""
+    path, data = asked.graph, None
+    if not is_feed(path) and not is_pat(path):
+        data = bytes_of(path, MAX_TEXT_BYTES if by_content(path) else MAX_STORE_BYTES)
+        if not by_content(path) or outputs.is_store(data):
+            if asked.draft:
+                raise Wrong(f"--draft makes a draft of a .feed file, and {shown(path)} is none")
+            draft = store_of_bytes(path, data, asked)
+            with about(path):
+                return AdmittedStore.built(draft.data, draft.names)
+    graph = graph_of(path, data)
+    with about(path):
         return Store(graph.draft(), graph.names) if asked.draft else graph.build()
-    if asked.draft:
-        raise Wrong(f"--draft makes a draft of a .feed file, and {asked.graph} is none")
-    draft = _read_store(asked.graph, asked)
-    return AdmittedStore.built(draft.data, draft.names)
-
-
-def _inputs(asked: argparse.Namespace) -> list[str]:
-    """The files that the command reads, as they are named."""
-    named = [getattr(asked, name, None) or [] for name in _INPUTS]
-    return [path for one in named for path in ([one] if isinstance(one, str) else one)]
 
 
 def _admit(asked: argparse.Namespace) -> int:
-    _refuse_text(asked.store, ".feed", "a store, as 'bahrufaz build' makes it,")
-    Store.read(asked.store, Names()).admit()
-    print(f"{asked.store} is admitted: building from its nodes, edges and constraints gives the same bytes")
+    if is_feed(asked.store):
+        raise Wrong(f"{asked.store} is the text of a graph, and a store, as 'bahrufaz build' makes it, is asked for")
+    data = bytes_of(asked.store, MAX_STORE_BYTES)
+    check_store_bytes(asked.store, data)
+    with about(asked.store):
+        AdmittedStore(data, Names())
+    print(f"{shown(asked.store)} is admitted: building from its nodes, edges and constraints gives the same bytes")
     return ANSWERED
 
 
 def _plan(asked: argparse.Namespace) -> int:
-    plan = calls.plan(_store(asked, built=False), _read_pattern(asked.pattern))
-    print(tables.plan_json(plan) if asked.json else tables.plan_text(plan))
+    store, pattern = store_of(asked, built=False), pattern_of(asked.pattern, order_of(asked))
+    with about(asked.store, asked.pattern), names_hint(store, asked.store):
+        plan = calls.plan(store, pattern)
+    emit(tables.plan_json(plan) if asked.json else tables.plan_text(plan))
+    return ANSWERED
+
+
+def _show(asked: argparse.Namespace) -> int:
+    store = listing.trusted_store(asked)
+    if asked.json:
+        listing.warn_unchecked(store, complain)
+    emit(tables.store_json(store) if asked.json else tables.store_text(store))
     return ANSWERED
 
 
 def _list(asked: argparse.Namespace) -> int:
-    if asked.count:
-        return _list_counts(asked)
-    if len(asked.pattern) > 1:
-        raise Wrong("more than one pattern is given: use --count, or list them one by one")
-    listing = _listing(asked, _trusted_store(asked), _read_pattern(asked.pattern[0]))
-    if asked.json or asked.csv:
-        _warn_unchecked(listing.store)
-    if asked.json:
-        print(tables.listing_json(listing, asked.ids))
-    elif asked.csv:
-        print(tables.listing_csv(listing, asked.ids))
-    else:
-        print(tables.listing_text(listing, asked.ids))
-    return ANSWERED
+    return listing.list_command(asked, emit, complain)
 
 
-def _list_counts(asked: argparse.Namespace) -> int:
-    """A line for each pattern: its answer, and how much was found and read."""
-    store, rows, worst = _trusted_store(asked), [], ANSWERED
-    for path in asked.pattern:
-        pattern = _read_pattern(path)
-        try:
-            told = _listing(asked, store, pattern)
-            rows.append((Path(path).name, 0, told.matches, told.entries, told.bound, ""))
-        except Refused as refused:
-            rows.append((Path(path).name, refused.number, "", "", "", refused.sentence))
-            worst = REFUSED
-    print(tables.marked(store, tables.table(("pattern", "answer", "matches", "read", "T", ""), rows)))
-    return worst
+def _compare(asked: argparse.Namespace) -> int:
+    return listing.compare_command(asked, emit, complain)
 
 
-def _show(asked: argparse.Namespace) -> int:
-    store = _trusted_store(asked)
-    if asked.json:
-        _warn_unchecked(store)
-    print(tables.store_json(store) if asked.json else tables.store_text(store))
-    return ANSWERED
+def _report(asked: argparse.Namespace) -> int:
+    outputs.check_report(asked)
+    with working(f"reporting on {shown(asked.store)}"):
+        page, status = listing.report_command(asked)
+        outputs.put(asked.output, page)
+    _say(asked, f"a report on {tables.counted(len(asked.pattern), 'pattern', 'patterns')}")
+    return status
 
 
 def _text(asked: argparse.Namespace) -> int:
-    store = _store(asked, built=False)
-    _put(asked, Graph.of_bytes(store.data, store.names).text(), ".feed")
+    outputs.check_text(asked, ".feed")
+    store = store_of(asked, built=False)
+    with about(asked.store):
+        outputs.put(asked.output, Graph.of_bytes(store.data, store.names).text())
     return ANSWERED
 
 
 def _pattern(asked: argparse.Namespace) -> int:
     """Between the text of a pattern and its bytes."""
-    names = _store(asked, built=False).names if asked.store else None
-    pattern = _read_pattern(asked.pattern)
-    if not _is_text(asked.pattern, ".pat"):
-        _put(asked, pattern.text(names), ".pat")
+    store = store_of(asked, built=False) if asked.store else None
+    pattern = pattern_of(asked.pattern, order_of(asked))
+    if not pattern.is_of_text:
+        outputs.check_text(asked, ".pat")
+        outputs.put(asked.output, pattern.text(store.names if store else None))
         return ANSWERED
     if not asked.output:
         raise Wrong("-o is needed: the bytes of a pattern are not for a terminal")
-    outputs.check_bytes(asked.output, outputs.PATTERN, _inputs(asked), asked.force)
-    data = pattern.encode(names)
-    write_whole(asked.output, data)
-    print(f"{asked.output}: {tables.counted(len(data), 'byte', 'bytes')}")
+    outputs.check_bytes(asked, outputs.PATTERN)
+    data = _encoded(pattern, store, asked)
+    outputs.put(asked.output, data)
+    _say(asked, f"{tables.counted(len(data), 'byte', 'bytes')}")
     return ANSWERED
 
 
-def _put(asked: argparse.Namespace, text: str, suffix: str) -> None:
-    """Writes a text to the file that is named, else to standard output."""
-    if not asked.output:
-        sys.stdout.write(text)
-        return
-    outputs.check_text(asked.output, suffix, _inputs(asked), asked.force)
-    write_whole(asked.output, text)
+def _encoded(pattern: calls.Pattern, store: Store | None, asked: argparse.Namespace) -> bytes:
+    if store is None:
+        return pattern.encode()
+    with names_hint(store, asked.store):
+        return pattern.encode(store.names)
 
 
 def _draw(asked: argparse.Namespace) -> int:
-    if asked.output:
-        outputs.check_picture(asked.output, _inputs(asked), asked.force)
-    dot, told = _dot(asked)
-    if not asked.output:
-        print(dot)
-        return ANSWERED
-    suffix = Path(asked.output).suffix
-    drawn = suffix in outputs.PICTURES and suffix != ".dot"
-    write_whole(asked.output, draw.picture(dot, suffix[1:]) if drawn else dot + "\n")
-    print(f"{asked.output}: {told}")
+    outputs.check_picture(asked)
+    with working("drawing"):
+        picture = _picture(asked)
+        if asked.output in (None, outputs.STDOUT):
+            print(picture.dot)
+            return ANSWERED
+        picture.write(asked.output)
+    print(f"{asked.output}: {picture.told}")
     return ANSWERED
 
 
-def _dot(asked: argparse.Namespace) -> tuple[str, str]:
-    """What is to be drawn as DOT, and a sentence about it."""
-    pattern, caption = _read_pattern(asked.pattern), Path(asked.pattern).name
+def _picture(asked: argparse.Namespace) -> Picture:
+    """What is to be drawn."""
+    pattern, title = pattern_of(asked.pattern, order_of(asked)), Path(asked.pattern).name
     if asked.what == "pattern":
-        names = _store(asked, built=False).names if asked.store else None
-        return draw.pattern_dot(pattern, names, caption), "the pattern"
+        names = store_of(asked, built=False).names if asked.store else None
+        return draw.draw_pattern(pattern, names, title)
     if not asked.store:
         raise Wrong(f"a store is needed to draw the {asked.what}: bahrufaz draw STORE PATTERN")
+    title += f" in {Path(shown(asked.store)).name}"
     if asked.what == "plan":
-        plan = calls.plan(_store(asked, built=False), pattern)
-        return draw.plan_dot(plan, caption), f"the plan, T = {plan.bound}"
-    listing = _listing(asked, _trusted_store(asked), pattern)
-    _warn_unchecked(listing.store)
-    return draw.matches_dot(listing, asked.most, asked.near, caption), draw.shown_of(listing, asked.most)
+        store = store_of(asked, built=False)
+        with about(asked.store, asked.pattern), names_hint(store, asked.store):
+            return draw.draw_plan(calls.plan(store, pattern), title)
+    store = listing.trusted_store(asked)
+    found = listing.listed(asked, store, pattern, asked.pattern)
+    listing.warn_unchecked(store, complain)
+    return draw.draw_matches(found, asked.most, asked.near, title)
 
 
 def _import(asked: argparse.Namespace) -> int:
-    outputs.check_text(asked.output, ".feed", _inputs(asked), asked.force)
+    outputs.check_text(asked, ".feed")
     keys = importing.Keys(asked.name_key, asked.label_key, asked.value_key)
-    if Path(asked.file).suffix == ".graphml":
-        imported = importing.import_graphml(asked.file, asked.label, keys)
-    else:
-        imported = importing.import_csv(asked.file, asked.nodes, asked.label, keys)
-    graph = imported.graph
-    for note in imported.notes:
-        _complain(f"{asked.file}: {note}")
-    graph.write(asked.output)
+    with working(f"reading {shown(asked.file)}"):
+        imported = importing.import_file(asked.file, asked.nodes, asked.label, keys)
+        for note in imported.notes:
+            complain(f"{shown(asked.file)}: {note}")
+        graph = imported.graph
+        outputs.put(asked.output, graph.text())
     told = [
         tables.counted(len(graph.nodes), "node", "nodes"),
         tables.counted(len(graph.edges), "edge", "edges"),
         tables.counted(len(graph.names.labels), "label", "labels"),
     ]
-    print(f"{asked.output}: {', '.join(told)}; now type its constraints into it")
+    _say(asked, f"{', '.join(told)}; now give it constraints: see 'bahrufaz measure'")
     return ANSWERED
 
 
 def _measure(asked: argparse.Namespace) -> int:
-    graph = Graph.read(asked.graph)
-    for one in measured(graph):
-        print(f"constraint {graph.names.constraint(one)}")
+    outputs.check_text(asked, ".feed")
+    data = bytes_of(asked.graph, MAX_TEXT_BYTES)
+    with working(f"measuring {shown(asked.graph)}"):
+        graph = graph_of(asked.graph, data)
+        patterns = [pattern_of(path) for path in asked.patterns or []]
+        with about(asked.graph, ", ".join(asked.patterns or [])):
+            found = measure_for(graph, patterns) if patterns else measure(graph)
+    lines = [f"constraint {graph.names.constraint(one)}" for one in found]
+    in_all = len(graph.constraints) + len(lines)
+    if in_all > MAX_CONSTRAINTS:
+        told = f"{in_all} constraints in all, and a store has at most {MAX_CONSTRAINTS}: say by --for PATTERN .. what they are for"
+        if asked.output:
+            raise Wrong(told)
+        complain(told)
+    if not asked.output:
+        emit(lines)
+        return ANSWERED
+    text = data.decode("utf-8-sig")
+    outputs.put(asked.output, text + ("" if text.endswith("\n") else "\n") + "".join(f"{line}\n" for line in lines))
+    _say(asked, f"{tables.counted(len(lines), 'constraint', 'constraints')} added, {in_all} in all")
     return ANSWERED
 
 
@@ -307,6 +313,8 @@ _COMMANDS = {
     "admit": _admit,
     "plan": _plan,
     "list": _list,
+    "compare": _compare,
+    "report": _report,
     "show": _show,
     "draw": _draw,
     "import": _import,

@@ -1,49 +1,19 @@
-"""Pictures of patterns, plans and matches, as Graphviz DOT; dot makes the picture where it is installed."""
+"""Pictures of patterns, plans and matches."""
 
 from __future__ import annotations
 
-import shutil
-import subprocess
 from typing import Iterable, KeysView, NamedTuple
 
-from .calls import Listing, Plan
+from .calls import Listing, Plan, Row
+from .dot import GREY, Picture, attributes, digraph, fill_of, quoted
 from .names import Names
 from .pattern import Pattern, conditions_text
 from .store import Store
 from .tables import UNCHECKED, counted
-from .wrong import Wrong
 
-_FILLS = ("#cfe3f5", "#fbe3c0", "#d5edcf", "#f6d3d5", "#e2d8f0", "#f3efb5", "#cdeeea", "#e8dccf")
-_GREY = "#808080"
 _FETCH = "#1f5fa8"
-
-
-class DotMissing(Wrong):
-    """A picture is asked for, and Graphviz is not there to make it."""
-
-
-def _quoted(text: str) -> str:
-    escaped = text.replace("\\", "\\\\").replace('"', '\\"').replace("\n", "\\n")
-    return f'"{escaped}"'
-
-
-def _attributes(**attributes: object) -> str:
-    return "[" + " ".join(f"{name}={_quoted(str(value))}" for name, value in attributes.items()) + "]"
-
-
-def _digraph(caption: str, body: Iterable[str]) -> str:
-    head = [
-        "digraph {",
-        f"  graph {_attributes(rankdir='LR', labelloc='t', label=caption, fontname='sans-serif', nodesep=0.35)}",
-        f"  node {_attributes(shape='box', style='rounded,filled', fillcolor='white', fontname='sans-serif')}",
-        f"  edge {_attributes(fontname='sans-serif', fontsize=10)}",
-    ]
-    return "\n".join([*head, *(f"  {line}" for line in body), "}"])
-
-
-def _fill(label: int) -> str:
-    """The colour of a label: the same in every picture."""
-    return _FILLS[(label - 1) % len(_FILLS)]
+_FEW = 8  # up to so many matches are drawn large, with some of their neighbours
+_NEAR = 3
 
 
 class _Roles(NamedTuple):
@@ -56,44 +26,79 @@ class _Roles(NamedTuple):
         """The label of a pattern node, as text, and its colour."""
         label = self.pattern.nodes[node].label
         if isinstance(label, int):
-            return self.names.labels.name(label), _fill(label)
+            return self.names.labels.name(label), fill_of(label)
         known = self.pattern.labels if label in self.pattern.labels else self.names.labels
-        return label, _fill(known.number(label)) if label in known else "white"
+        return label, fill_of(known.number(label)) if label in known else "white"
+
+    def name(self, node: int) -> str:
+        """How DOT names a pattern node: a title that a reader meets."""
+        return quoted(self.pattern.names.spelled(node))
 
     def node(self, node: int, *more: str) -> str:
         label, fill = self.label(node)
         name, conditions = self.pattern.names.name(node), self.pattern.nodes[node].conditions
         lines = [name, label if label != name else "", conditions_text(conditions), *more]
-        text = "\n".join(line for line in lines if line)
-        return f"{node} {_attributes(label=text, fillcolor=fill)}"
+        return f"{self.name(node)} {attributes(label=_lines(lines), fillcolor=fill)}"
+
+    def edge(self, start: int, end: int, **given: object) -> str:
+        return f"{self.name(start)} -> {self.name(end)}" + (f" {attributes(**given)}" if given else "")
 
 
-def pattern_dot(pattern: Pattern, names: Names | None = None, caption: str = "pattern") -> str:
+def _lines(lines: Iterable[str]) -> str:
+    return "\n".join(line for line in lines if line)
+
+
+def _titled(pattern: Pattern, title: str) -> list[str]:
+    """The question that a pattern asks, where its text begins with one, and what it is called."""
+    return [pattern.question, title] if pattern.question and title else [pattern.question or title or "pattern"]
+
+
+def draw_pattern(pattern: Pattern, names: Names | None = None, title: str = "", titled: bool = True) -> Picture:
     """The nodes that are looked for, with their conditions, and the edges between them."""
     roles = _Roles(pattern, names or Names())
     body = [roles.node(node) for node in range(len(pattern.nodes))]
-    body += [f"{start} -> {end}" for start, end in pattern.edge_list]
-    return _digraph(caption, body)
+    body += [roles.edge(*edge) for edge in pattern.edge_list]
+    return Picture(digraph(_titled(pattern, title) if titled else [], {}, body), "the pattern")
 
 
-def plan_dot(plan: Plan, caption: str = "plan") -> str:
-    """The pattern with the step and figure of each row; dashed arrows show from where a node is fetched."""
+def draw_plan(plan: Plan, title: str = "") -> Picture:
+    """The pattern with what each step reads at most; dashed arrows show from where a node is fetched."""
     roles, body = _Roles(plan.pattern, plan.store.names), []
-    for step, row in enumerate(plan.rows, 1):
-        told = f"step {step}, figure {row.figure}"
+    figures = {row.number: row.figure for row in plan if not row.is_edge}
+    for step, row in enumerate(plan, 1):
+        told = f"step {step}: {_product(plan, row, figures)}"
         if row.is_edge:
-            start, end = plan.pattern.edge_list[row.number]
-            body.append(f"{start} -> {end} {_attributes(label=told)}")
+            body.append(roles.edge(*plan.pattern.edge_list[row.number], label=told))
             continue
         body.append(roles.node(row.number, told))
-        fetch = _attributes(
-            label=plan.constraint(row), style="dashed", color=_FETCH, fontcolor=_FETCH, constraint="false"
-        )
-        body += [f"{chosen} -> {row.number} {fetch}" for chosen in row.chosen]
+        why = {"label": _promise(plan, row), "style": "dashed", "color": _FETCH, "fontcolor": _FETCH}
+        body += [roles.edge(chosen, row.number, **why, constraint="false") for chosen in row.chosen]
         if not row.chosen:
-            body.append(f"from{step} {_attributes(label=plan.constraint(row), shape='plaintext', fontcolor=_FETCH)}")
-            body.append(f"from{step} -> {row.number} {_attributes(style='dashed', color=_FETCH)}")
-    return _digraph(f"{caption}\nT = {plan.bound}: at most {counted(plan.bound, 'entry', 'entries')} read", body)
+            start = quoted(f"from nothing, step {step}")
+            body.append(f"{start} {attributes(label=why['label'], shape='plaintext', style='', fontcolor=_FETCH)}")
+            body.append(f"{start} -> {roles.name(row.number)} {attributes(style='dashed', color=_FETCH)}")
+    terms = " + ".join(f"{row.figure:,}" for row in plan)
+    told = f"T = {terms} = {plan.bound:,}: at most {counted(plan.bound, 'entry', 'entries')} read, however large the graph is"
+    key = "step: what it reads at most; dashed and blue: a constraint, and the node it is fetched from"
+    return Picture(digraph([*_titled(plan.pattern, title), told, key], {}, body), f"the plan, T = {plan.bound}")
+
+
+def _promise(plan: Plan, row: Row) -> str:
+    """What a constraint promises, in words."""
+    one = plan.store.constraints[row.constraint]
+    label = plan.store.names.labels.name(one.label)
+    if not row.chosen:
+        return f"all {label} nodes: at most {one.most:,}"
+    of = " and ".join(map(plan.pattern.names.name, row.chosen))
+    return f"each {of}: at most {one.most:,}"
+
+
+def _product(plan: Plan, row: Row, figures: dict[int, int]) -> str:
+    """The figure of a row, and how it is made up."""
+    factors = [figures[node] for node in row.chosen] + [plan.store.constraints[row.constraint].most]
+    if len(factors) == 1:
+        return f"at most {row.figure:,}"
+    return f"at most {' × '.join(f'{one:,}' for one in factors)} = {row.figure:,}"
 
 
 class _Scene(NamedTuple):
@@ -105,12 +110,15 @@ class _Scene(NamedTuple):
     left_out: dict[int, int]
     elsewhere: set[int]
     edges: list[tuple[int, int]]
+    large: bool
 
 
-def _scene(listing: Listing, most: int, near: int) -> _Scene:
+def _scene(listing: Listing, most: int, near: int | None) -> _Scene:
     names, edges = listing.pattern.node_names(), listing.store.sections.edges
+    large = min(most, listing.matches) <= _FEW
+    near = (_NEAR if large else 0) if near is None else near
     roles: dict[int, list[str]] = {}
-    matched = set()
+    matched: set[tuple[int, int]] = set()
     for row in listing.rows[:most]:
         for node, role in zip(row, names):
             if role not in roles.setdefault(node, []):
@@ -118,11 +126,11 @@ def _scene(listing: Listing, most: int, near: int) -> _Scene:
         matched.update((row[start], row[end]) for start, end in listing.pattern.edge_list)
     around = _neighbours(edges, roles.keys())
     near_by = {other for others in around.values() for other in sorted(others)[:near]}
-    left_out = {node: len(others - near_by) for node, others in around.items()}
+    left_out = {node: len(others - near_by) for node, others in around.items()} if near else {}
     shown = roles.keys() | near_by
-    elsewhere = {node for row in listing.rows[most:] for node in row} - roles.keys()
-    drawn = [edge for edge in edges if edge[0] in shown and edge[1] in shown]
-    return _Scene(roles, matched, sorted(near_by), left_out, elsewhere, drawn)
+    elsewhere = {node for row in listing.rows[most:] for node in row} - roles.keys() if near_by else set()
+    drawn = [edge for edge in edges if edge in matched or near and edge[0] in shown and edge[1] in shown]
+    return _Scene(roles, matched, sorted(near_by), left_out, elsewhere, drawn, large)
 
 
 def _neighbours(edges: list[tuple[int, int]], matched: KeysView[int]) -> dict[int, set[int]]:
@@ -136,28 +144,58 @@ def _neighbours(edges: list[tuple[int, int]], matched: KeysView[int]) -> dict[in
     return around
 
 
-def matches_dot(listing: Listing, most: int = 50, near: int = 3, caption: str = "matches") -> str:
-    """The nodes of the first matches, with their roles, and grey around each some of its neighbours."""
+def draw_matches(listing: Listing, most: int = 50, near: int | None = None, title: str = "") -> Picture:
+    """The nodes of the first matches with their roles; round few matches, in grey, some of their neighbours."""
     scene, store = _scene(listing, most, near), listing.store
+    name = store.names.nodes.spelled
     body = [_matched_node(scene, store, node) for node in sorted(scene.roles)]
-    for node in scene.near:
-        more = {"style": "rounded,dashed"} if node in scene.elsewhere else {}
-        text = _node_text(store, node, *(["in a match not drawn"] if more else []))
-        body.append(f"{node} {_attributes(label=text, color=_GREY, fontcolor=_GREY, **more)}")
-    for edge in scene.edges:
-        style = {"penwidth": 2} if edge in scene.matched else {"color": _GREY}
-        body.append(f"{edge[0]} -> {edge[1]} {_attributes(**style)}")
-    told = [caption, shown_of(listing, most), *([] if listing.admitted else [UNCHECKED])]
-    return _digraph("\n".join(told), body)
+    body += [_near_node(scene, store, node) for node in scene.near]
+    for start, end in scene.edges:
+        style: dict[str, object] = {"penwidth": 2} if (start, end) in scene.matched else {"color": GREY}
+        body.append(f"{quoted(name(start))} -> {quoted(name(end))} {attributes(**style)}")
+    told = [*_titled(listing.pattern, title), shown_of(listing, most), _unread(store)]
+    told += [] if listing.admitted else [UNCHECKED]
+    tall = len(scene.roles) > 3 * len(listing.pattern.nodes)
+    return Picture(digraph(told, _legend(listing, scene), body, portrait=tall), shown_of(listing, most))
+
+
+def _legend(listing: Listing, scene: _Scene) -> dict[str, str]:
+    """What the colours say: the label of each pattern node, and whether a node is in a match."""
+    roles = _Roles(listing.pattern, listing.store.names)
+    told = {}
+    for node in range(len(listing.pattern.nodes)):
+        label, fill = roles.label(node)
+        own = listing.pattern.names.name(node)
+        told[label if own == label else f"{own}: {label}"] = fill
+    return {**told, **({"grey: a neighbour, in no match": "white"} if scene.near else {})}
+
+
+def _unread(store: Store) -> str:
+    """What there is to be read in all."""
+    counts = store.counts
+    entries = counted(counts.entries, "entry", "entries")
+    return f"the store has {entries} in its index; its {counted(counts.edges, 'edge', 'edges')} were not read"
 
 
 def _matched_node(scene: _Scene, store: Store, node: int) -> str:
     label = store.sections.nodes[node][0]
     other = [role for role in scene.roles[node] if role != store.names.labels.name(label)]
-    more = [f"as {', '.join(other)}"] if other else []
-    if scene.left_out[node]:
+    more = [f"as {', '.join(other)}"] if other and scene.large else []
+    if scene.left_out.get(node):
         more.append(counted(scene.left_out[node], "more neighbour", "more neighbours"))
-    return f"{node} {_attributes(label=_node_text(store, node, *more), fillcolor=_fill(label), penwidth=2)}"
+    text = _node_text(store, node, *more) if scene.large else store.names.nodes.name(node)
+    shape = {} if scene.large else {"height": 0.3, "margin": "0.12,0.04"}
+    return f"{_dot_name(store, node)} {attributes(label=text, fillcolor=fill_of(label), penwidth=2, **shape)}"
+
+
+def _near_node(scene: _Scene, store: Store, node: int) -> str:
+    more = {"style": "rounded,dashed"} if node in scene.elsewhere else {}
+    text = _node_text(store, node, *(["in a match not drawn"] if more else []))
+    return f"{_dot_name(store, node)} {attributes(label=text, color=GREY, fontcolor=GREY, **more)}"
+
+
+def _dot_name(store: Store, node: int) -> str:
+    return quoted(store.names.nodes.spelled(node))
 
 
 def _node_text(store: Store, node: int, *more: str) -> str:
@@ -174,16 +212,3 @@ def shown_of(listing: Listing, most: int) -> str:
     matches = counted(listing.matches, "match", "matches") if listing.matches else "no match"
     shown = matches if listing.matches <= most else f"the first {most:,} of {matches}"
     return f"{shown}; {counted(listing.entries, 'entry', 'entries')} read of at most {listing.bound:,}"
-
-
-def picture(dot: str, kind: str) -> bytes:
-    """The picture that Graphviz makes of a DOT text, as svg, png or pdf."""
-    program = shutil.which("dot")
-    if not program:
-        raise DotMissing(
-            f"dot is not installed, so no {kind} can be made: install graphviz, or write a .dot file instead"
-        )
-    made = subprocess.run([program, f"-T{kind}"], input=dot.encode("utf-8"), capture_output=True, check=False)
-    if made.returncode:
-        raise Wrong(f"dot cannot draw this: {made.stderr.decode('utf-8', 'replace').strip()}")
-    return made.stdout

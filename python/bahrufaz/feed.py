@@ -2,69 +2,103 @@
 
 from __future__ import annotations
 
-from typing import TYPE_CHECKING, Callable
+import re
+from typing import Callable, Iterable, Protocol, Sequence
 
-from .records import MAX_LABEL, MAX_N, MAX_VALUE, MIN_VALUE
-from .text import Line, Token, aligned, lines_of, spelled
+from .lines import NAME, Line, Mistakes, meant, sorted_lines, take_edge, take_label_name, take_lines, take_node_name, unquoted
+from .names import Names
+from .records import MAX_CONSTRAINTS, MAX_EDGES, MAX_LABEL, MAX_N, MAX_NODES, MAX_VALUE, MIN_VALUE, Constraint
+from .text import WHOLE_NUMBER, aligned, spelled
 from .wrong import WrongGraph, WrongName, WrongText
 
-if TYPE_CHECKING:
-    from .graph import Graph
+# Node and edge lines as they mostly are; any other is looked at word by word.
+_NODE = re.compile(rf"\s*node\s+({NAME})\s+({NAME})(?:\s+value\s*=\s*(-?[0-9]{{1,10}}))?\s*(?:#.*)?")
+_EDGE = re.compile(rf"\s*edge\s+({NAME})\s+(?:->|→)\s+({NAME})\s*(?:#.*)?")
 
 
-def fill(graph: Graph, text: str, file: str) -> None:
+_MOST_LINES = {
+    "label": MAX_LABEL,
+    "node": MAX_NODES,
+    "no": 1,
+    "edge": MAX_EDGES,
+    "constraint": MAX_CONSTRAINTS,
+}
+
+
+class Fed(Protocol):
+    """What a text is put into: a graph."""
+
+    names: Names
+
+    @property
+    def nodes(self) -> Sequence[tuple[int, int]]: ...
+
+    def add_label(self, name: str, number: int | None = None) -> int: ...
+
+    def add_node(self, name: str | None, label: str | int, value: int = 0) -> int: ...
+
+    def add_edge(self, start: str | int, end: str | int) -> None: ...
+
+    def add_constraint(self, key_labels: Iterable[str | int], label: str | int, most: int) -> None: ...
+
+
+def fill(graph: Fed, text: str, file: str) -> None:
     """Puts a text into an empty graph; labels, nodes, edges and constraints may stand in any order."""
-    lines: dict[str, list[Line]] = {kind: [] for kind in _TAKERS}
-    last = 1
-    for line in lines_of(text, file):
-        lines[line.choose(lines, "label, node, edge or constraint")].append(line)
-        last = line.line
-    if not lines["node"] and not lines["no"]:
-        raise WrongText(file, last, "expected a node line: a graph without nodes says so, by the line 'no nodes'")
-    for kind, take in _TAKERS.items():
-        for line in lines[kind]:
-            try:
-                take(line, graph)
-            except (WrongName, WrongGraph) as error:
-                raise line.error(str(error)) from None
+    mistakes = Mistakes(file)
+    lines = sorted_lines(text, _MOST_LINES, "label, node, edge or constraint", mistakes)
+    take_lines(lines["label"], _label_line, graph, mistakes, _stand_in_label)
+    take_lines(_unusual(lines["node"], _quick_node, graph, mistakes), _node_line, graph, mistakes, _stand_in_node)
+    take_lines(lines["no"], _no_nodes_line, graph, mistakes)
+    take_lines(_unusual(lines["edge"], _quick_edge, graph, mistakes), _edge_line, graph, mistakes)
+    take_lines(lines["constraint"], _constraint_line, graph, mistakes)
+    if not (lines["node"] or lines["no"]):
+        mistakes.add_if_none(lines, "expected a node line: a graph without nodes says so, by the line 'no nodes'")
+    mistakes.tell()
 
 
-def meant(token: Token) -> str | int:
-    """A name; a bare number is a number."""
-    return token.text if token.number is None else token.number
+def _unusual(
+    lines: Iterable[tuple[int, str]], quick: Callable[[str, Fed], bool], graph: Fed, mistakes: Mistakes
+) -> Iterable[tuple[int, str]]:
+    """Takes the lines as they mostly are at once, and gives those that are left, each in its turn."""
+    for number, line in lines:
+        try:
+            taken = quick(line, graph)
+        except (WrongText, WrongName, WrongGraph):
+            taken = False
+        if not taken:
+            yield number, line
 
 
-def take_label_name(line: Line) -> str:
-    """The name that a label line gives."""
-    token = line.take("the name of a label")
-    if token.number is not None:
-        raise line.error(f'expected the name of a label, found {token.text}; quote a name of digits: "{token.text}"')
-    return token.text
+def _quick_node(line: str, graph: Fed) -> bool:
+    found = _NODE.fullmatch(line)
+    if not found:
+        return False
+    name, label, value = found.groups()
+    if WHOLE_NUMBER.fullmatch(name):
+        return False
+    graph.add_node(_name(name), _meant(label), int(value) if value else 0)
+    return True
 
 
-def take_node_name(line: Line, place: int) -> str | None:
-    """The name of the node at this place; its own id leaves it without a name."""
-    token = line.take("the name of a node")
-    if token.number is None:
-        return token.text
-    if token.number != place:
-        raise line.error(
-            f"expected a name, or {place}, the id of this node, found {token.text}; "
-            f'quote a name of digits: "{token.text}"'
-        )
-    return None
+def _quick_edge(line: str, graph: Fed) -> bool:
+    found = _EDGE.fullmatch(line)
+    if not found:
+        return False
+    graph.add_edge(_meant(found[1]), _meant(found[2]))
+    return True
 
 
-def take_edge(line: Line) -> tuple[str | int, str | int]:
-    """Both ends of an edge line."""
-    start = meant(line.take("the node that the edge starts at"))
-    line.want("->")
-    end = meant(line.take("the node that the edge ends at"))
-    line.end()
-    return start, end
+def _name(name: str) -> str:
+    """A name, quoted or not."""
+    return unquoted(name, "", 0) if name[0] == '"' else name
 
 
-def _label_line(line: Line, graph: Graph) -> None:
+def _meant(name: str) -> str | int:
+    """A name, quoted or not; a bare number is a number."""
+    return int(name) if WHOLE_NUMBER.fullmatch(name) and len(name) < 20 else _name(name)
+
+
+def _label_line(line: Line, graph: Fed) -> None:
     name, number = take_label_name(line), None
     if line.peek():
         number = line.whole_number(f"the number of label {spelled(name)}", 1, MAX_LABEL)
@@ -72,7 +106,14 @@ def _label_line(line: Line, graph: Graph) -> None:
     graph.add_label(name, number)
 
 
-def _node_line(line: Line, graph: Graph) -> None:
+def _stand_in_label(name: str, graph: Fed) -> None:
+    labels = graph.names.labels
+    if name and name not in labels:
+        taken = {number for number, _ in labels.items()}
+        labels.add(next(number for number in range(MAX_LABEL, 0, -1) if number not in taken), name)
+
+
+def _node_line(line: Line, graph: Fed) -> None:
     name = take_node_name(line, len(graph.nodes))
     label, value = meant(line.take("a label")), 0
     if line.peek():
@@ -82,24 +123,29 @@ def _node_line(line: Line, graph: Graph) -> None:
     graph.add_node(name, label, value)
 
 
-def _no_nodes_line(line: Line, graph: Graph) -> None:
+def _stand_in_node(name: str, graph: Fed) -> None:
+    graph.add_node(name if name and name not in graph.names.nodes else None, 1)
+
+
+def _no_nodes_line(line: Line, graph: Fed) -> None:
     line.want("nodes")
     line.end()
     if graph.nodes:
         raise line.error("expected no node line beside 'no nodes'")
 
 
-def _edge_line(line: Line, graph: Graph) -> None:
+def _edge_line(line: Line, graph: Fed) -> None:
     graph.add_edge(*take_edge(line))
 
 
-def _constraint_line(line: Line, graph: Graph) -> None:
+def _constraint_line(line: Line, graph: Fed) -> None:
     key: list[str | int] = []
     if not line.skip("->"):
         key.append(meant(line.take("a label or ->")))
         while line.skip(","):
             key.append(meant(line.take("a label")))
-        line.want("->")
+        if not line.skip("->"):
+            raise line.expected("a comma or ->")
     label = meant(line.take("a label"))
     line.want("at", "most")
     most = line.whole_number("N", 1, MAX_N)
@@ -107,28 +153,24 @@ def _constraint_line(line: Line, graph: Graph) -> None:
     graph.add_constraint(key, label, most)
 
 
-_TAKERS: dict[str, Callable[[Line, "Graph"], None]] = {
-    "label": _label_line,
-    "node": _node_line,
-    "no": _no_nodes_line,
-    "edge": _edge_line,
-    "constraint": _constraint_line,
-}
-
-
-def text_of(graph: Graph) -> str:
+def text_of(
+    names: Names,
+    nodes: Sequence[tuple[int, int]],
+    edges: Iterable[tuple[int, int]],
+    constraints: Iterable[Constraint],
+) -> str:
     """The text of a graph."""
-    labels, nodes = graph.names.labels, graph.names.nodes
+    spellings = [names.nodes.spelled(place) for place in range(len(nodes))]
+    labels = {label: names.labels.spelled(label) for label, _ in set(nodes)}
     parts = [
-        aligned((f"label {spelled(name)}", str(number)) for number, name in labels.items()),
-        aligned(_node_words(graph, place) for place in range(len(graph.nodes))) or ["no nodes"],
-        [f"edge {nodes.spelled(start)} -> {nodes.spelled(end)}" for start, end in sorted(graph.edges)],
-        [f"constraint {graph.names.constraint(one)}" for one in graph.constraints],
+        aligned((f"label {spelled(name)}", str(number)) for number, name in names.labels.items()),
+        aligned(_node_words(name, labels[label], value) for name, (label, value) in zip(spellings, nodes)) or ["no nodes"],
+        [f"edge {spellings[start]} -> {spellings[end]}" for start, end in sorted(edges)],
+        [f"constraint {names.constraint(one)}" for one in constraints],
     ]
     return "\n\n".join("\n".join(part) for part in parts if part) + "\n"
 
 
-def _node_words(graph: Graph, place: int) -> list[str]:
-    label, value = graph.nodes[place]
-    words = [f"node {graph.names.nodes.spelled(place)}", graph.names.labels.spelled(label)]
+def _node_words(name: str, label: str, value: int) -> list[str]:
+    words = [f"node {name}", label]
     return words + [f"value = {value}"] if value else words

@@ -1,4 +1,4 @@
-"""Files written whole, and files that belong together written together or not at all."""
+"""Files read as far as they may be long, written whole, and written together if they belong together."""
 
 from __future__ import annotations
 
@@ -11,6 +11,12 @@ from pathlib import Path
 from typing import Mapping, Optional, Union
 
 Content = Union[bytes, str]
+
+
+def read_most(path: str | Path, most: int) -> bytes:
+    """The bytes of a file, or of an endless one the first most + 1: enough to see that there are too many."""
+    with open(path, "rb") as file:
+        return file.read(most + 1)
 
 
 def write_whole(path: str | Path, content: Content) -> None:
@@ -87,7 +93,10 @@ class _Through(_Replacement):
         self._place, self._data = place, data
 
     def replace(self) -> None:
-        self._place.write_bytes(self._data)
+        try:
+            self._place.write_bytes(self._data)
+        except OSError as error:
+            raise type(error)(error.errno, error.strerror, str(self._place)) from None
 
     def put_back(self) -> None:
         pass

@@ -19,9 +19,9 @@ from .records import (
     MAX_VALUE,
     MIN_VALUE,
     Constraint,
+    Sections,
     draft_bytes,
     draft_of,
-    sections_of,
 )
 from .store import AdmittedStore, Store
 from .text import read_text
@@ -49,6 +49,9 @@ class Graph:
         self.edges: set[tuple[int, int]] = set()
         self.constraints: list[Constraint] = []
         self._last_label = 0
+
+    def __repr__(self) -> str:
+        return f"<Graph: {len(self.nodes)} nodes, {len(self.edges)} edges, {len(self.constraints)} constraints>"
 
     def add_label(self, name: str, number: int | None = None) -> int:
         """Names a label; without a number it takes the one after the label added before."""
@@ -78,14 +81,16 @@ class Graph:
 
     def add_edge(self, start: str | int, end: str | int) -> None:
         edge = self._node(start), self._node(end)
-        shown = " -> ".join(map(self.names.nodes.spelled, edge))
         if edge[0] == edge[1]:
-            raise WrongGraph(f"an edge joins two different nodes, and {shown} does not")
+            raise WrongGraph(f"an edge joins two different nodes, and {self._shown(edge)} does not")
         if edge in self.edges:
-            raise WrongGraph(f"the edge {shown} is there already")
+            raise WrongGraph(f"the edge {self._shown(edge)} is there already")
         if len(self.edges) == MAX_EDGES:
             raise WrongGraph(f"a store has at most {MAX_EDGES:,} edges")
         self.edges.add(edge)
+
+    def _shown(self, edge: tuple[int, int]) -> str:
+        return " -> ".join(map(self.names.nodes.spelled, edge))
 
     def add_constraint(self, key_labels: Iterable[str | int], label: str | int, most: int) -> None:
         """S → (l, N): for one node of each key label, at most so many nodes of the label."""
@@ -133,7 +138,7 @@ class Graph:
         """The graph of a store or draft whose records the library finds right; else Refused."""
         library.check_header(data)
         check_records(draft_of(data))
-        graph, sections = cls(), sections_of(data)
+        graph, sections = cls(), Sections(data)
         graph.names = names or Names()
         graph.nodes = [Node(*node) for node in sections.nodes]
         graph.edges = set(sections.edges)
@@ -154,7 +159,7 @@ class Graph:
 
     def text(self) -> str:
         """The .feed text: read again, it gives the same draft and the same names."""
-        return feed.text_of(self)
+        return feed.text_of(self.names, self.nodes, self.edges, self.constraints)
 
     def write(self, path: str | Path) -> None:
         """Writes a .feed file, whole or not at all."""

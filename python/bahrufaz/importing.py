@@ -4,16 +4,19 @@ from __future__ import annotations
 
 import csv
 import io
-import xml.etree.ElementTree as xml
 from pathlib import Path
 from typing import Any, Callable, Iterator, NamedTuple, Sequence
 
 from .graph import Graph
-from .text import Token, read_text
+from .graphml import read_graphml
+from .lines import Token
+from .reading import by_content, bytes_of, shown
+from .text import MAX_TEXT_BYTES, shortened, text_of
 from .wrong import Wrong, WrongGraph, WrongName, WrongText
 
 _ENDS = (("from", "to"), ("source", "target"))
 _DELIMITERS = ",;\t"
+_GRAPHML = (".graphml", ".xml")
 
 
 class Keys(NamedTuple):
@@ -50,10 +53,11 @@ class _Maker:
     def edge(self, start: str, end: str) -> None:
         """Adds an edge; one that is there already is counted and left out."""
         nodes = self.graph.names.nodes
-        if (nodes.number(start), nodes.number(end)) in self.graph.edges:
+        edge = nodes.number(start), nodes.number(end)
+        if edge in self.graph.edges:
             self._repeated += 1
         else:
-            self.graph.add_edge(start, end)
+            self.graph.add_edge(*edge)
 
     def made(self, *notes: str) -> Imported:
         told = [f"{self._repeated} repeated edges were left out"] if self._repeated else []
@@ -63,60 +67,81 @@ class _Maker:
 def _whole(value: str | None) -> int:
     number = Token("word", value).number if value else 0
     if number is None:
-        raise WrongGraph(f"a value is a whole number, and {value} is none")
+        raise WrongGraph(f"a value is a whole number, and {shortened(str(value))} is none")
     return number
+
+
+def import_file(file: str, nodes: str | None, label: str | None, keys: Keys) -> Imported:
+    """A graph from a file: GraphML if its name or its beginning says so, else an edge list in CSV."""
+    data = bytes_of(file, MAX_TEXT_BYTES)
+    if Path(file).suffix in _GRAPHML or (by_content(file) and data.lstrip()[:1] == b"<"):
+        return _import_graphml(data, shown(file), label, keys)
+    return _import_csv(text_of(data, shown(file)), shown(file), nodes, label, keys)
 
 
 def import_csv(
     edges: str | Path, nodes: str | Path | None = None, label: str | None = None, keys: Keys = Keys()
 ) -> Imported:
     """A graph from a CSV file of edges (from, to), and one of nodes (name, label, value)."""
+    return _import_csv(_read(edges), str(edges), nodes, label, keys)
+
+
+def _read(file: str | Path) -> str:
+    return text_of(bytes_of(str(file), MAX_TEXT_BYTES), shown(str(file)))
+
+
+def _import_csv(text: str, file: str, nodes: str | Path | None, label: str | None, keys: Keys) -> Imported:
     maker = _Maker(label)
     if nodes:
         _add_csv_nodes(maker, nodes, keys, (keys.label.lower(),) if not label else ())
     elif not label:
         raise Wrong("an edge list says nothing about labels: give --nodes FILE, or --label NAME for all nodes")
-    for line, row in _csv_rows(edges, _ENDS):
-        ends = next([row[start], row[end]] for start, end in _ENDS if start in row and end in row)
-        new = [] if nodes else [end for end in dict.fromkeys(ends) if end not in maker.graph.names.nodes]
+    rows = _csv_rows(text, file, _ENDS)
+    head = next(rows)[1]
+    start, end = next([head.index(one) for one in ends] for ends in _ENDS if set(ends) <= set(head))
+    for line, cells in rows:
+        ends = cells[start].strip(), cells[end].strip()
+        new = [] if nodes else [name for name in dict.fromkeys(ends) if name not in maker.graph.names.nodes]
         for name in new:
-            _at(edges, line, maker.node, name, None, None)
-        _at(edges, line, maker.edge, *ends)
+            _at(file, line, maker.node, name, None, None)
+        _at(file, line, maker.edge, *ends)
     return maker.made()
 
 
 def _add_csv_nodes(maker: _Maker, nodes: str | Path, keys: Keys, wanted: tuple[str, ...]) -> None:
     name, label, value = (keys.name or "name").lower(), keys.label.lower(), keys.value.lower()
-    for line, row in _csv_rows(nodes, [(name, *wanted)]):
-        _at(nodes, line, maker.node, row[name], row.get(label), row.get(value))
+    rows = _csv_rows(_read(nodes), str(nodes), [(name, *wanted)])
+    head = next(rows)[1]
+    at_name, at_label, at_value = (head.index(key) if key in head else None for key in (name, label, value))
+    for line, cells in rows:
+        own = [None if at is None else cells[at].strip() for at in (at_name, at_label, at_value)]
+        _at(nodes, line, maker.node, *own)
 
 
-def _at(file: str | Path, line: int, work: Callable[..., None], *arguments: Any) -> None:
-    """Does the work; what is wrong about it names file and line."""
+def _at(file: str | Path, line: int, work: Callable[..., None], *arguments: Any, of: str = "") -> None:
+    """Does the work; what is wrong about it names file and line, and what it is about."""
     try:
         work(*arguments)
     except (WrongGraph, WrongName) as error:
-        raise WrongText(str(file), line, str(error)) from None
+        raise WrongText(str(file), line, f"{of}{error}") from None
 
 
-def _csv_rows(
-    file: str | Path, wanted: Sequence[tuple[str, ...]]
-) -> Iterator[tuple[int, dict[str, str]]]:
-    """The rows of a CSV file by column, in small letters; one of the wanted sets of columns is there."""
-    text = read_text(file)
+def _csv_rows(text: str, file: str, wanted: Sequence[tuple[str, ...]]) -> Iterator[tuple[int, list[str]]]:
+    """The columns in small letters, among them one of the wanted sets, then the rows with their lines."""
     first = text.partition("\n")[0]
     rows = _csv_cells(file, text, max(_DELIMITERS, key=first.count))
     head = [column.strip().lower() for column in next(rows, (1, []))[1]]
     if not any(set(columns) <= set(head) for columns in wanted):
-        shown = " or ".join(", ".join(columns) for columns in wanted)
-        raise WrongText(str(file), 1, f"expected a first line with the columns {shown}, found {first!r}")
+        columns = " or ".join(", ".join(columns) for columns in wanted)
+        raise WrongText(file, 1, f"expected a first line with the columns {columns}, found '{shortened(first)}'")
+    yield 1, head
     for line, cells in rows:
         if len(cells) != len(head):
-            raise WrongText(str(file), line, f"expected {len(head)} columns, found {len(cells)}")
-        yield line, dict(zip(head, (cell.strip() for cell in cells)))
+            raise WrongText(file, line, f"expected {len(head)} columns, found {len(cells)}")
+        yield line, cells
 
 
-def _csv_cells(file: str | Path, text: str, delimiter: str) -> Iterator[tuple[int, list[str]]]:
+def _csv_cells(file: str, text: str, delimiter: str) -> Iterator[tuple[int, list[str]]]:
     """The rows that have something in them, each with the line it starts at; a quoted cell may have line feeds."""
     reader = csv.reader(io.StringIO(text), delimiter=delimiter, strict=True)
     line = 1
@@ -126,96 +151,34 @@ def _csv_cells(file: str | Path, text: str, delimiter: str) -> Iterator[tuple[in
                 yield line, cells
             line = reader.line_num + 1
     except csv.Error as error:
-        raise WrongText(str(file), line, f"expected CSV: {error}") from None
+        raise WrongText(file, line, f"expected CSV: {error}") from None
 
 
 def import_graphml(file: str | Path, label: str | None = None, keys: Keys = Keys()) -> Imported:
     """A graph from GraphML, as networkx and yEd write it."""
-    try:
-        root = xml.parse(file).getroot()
-    except xml.ParseError as error:
-        raise WrongText(str(file), error.position[0], f"expected XML: {error}") from None
-    graphs = [element for element in root if _tag(element) == "graph"]
-    if _tag(root) != "graphml" or len(graphs) != 1:
-        raise WrongText(str(file), 1, "expected a <graphml> element with one <graph>")
-    maker, attributes = _Maker(label), _Attributes(root)
-    nodes = [element for element in graphs[0].iter() if _tag(element) == "node"]
-    names = _node_names(nodes, attributes, keys)
-    for element in nodes:
-        own = attributes.of(element)
-        _in_element(file, element, maker.node, names[element.get("id", "")], own.get(keys.label), own.get(keys.value))
-    undirected = _add_edges(file, graphs[0], maker, names)
-    return maker.made(*(["undirected edges were written both ways"] if undirected else []))
+    return _import_graphml(bytes_of(str(file), MAX_TEXT_BYTES), str(file), label, keys)
 
 
-def _tag(element: xml.Element) -> str:
-    return element.tag.rpartition("}")[2]
-
-
-class _Attributes:
-    """The data of elements by attribute name, with the defaults that the keys declare."""
-
-    def __init__(self, root: xml.Element):
-        self._names: dict[str, str] = {}
-        self._defaults: dict[str, str] = {}
-        for key in (element for element in root if _tag(element) == "key"):
-            name = key.get("attr.name") or key.get("yfiles.type") or key.get("id", "")
-            self._names[key.get("id", "")] = name
-            if key.get("for") in ("node", "all"):
-                self._defaults.update({name: d.text or "" for d in key if _tag(d) == "default"})
-
-    def of(self, element: xml.Element) -> dict[str, str]:
-        own = {
-            self._names.get(data.get("key", ""), ""): data.text.strip()
-            for data in element
-            if _tag(data) == "data" and data.text and data.text.strip()
-        }
-        return self._defaults | own
-
-
-def _node_names(nodes: list[xml.Element], attributes: _Attributes, keys: Keys) -> dict[str, str]:
-    """The name of each node by its id: the attribute asked for, else yEd's text, else the id."""
-    ids = [element.get("id", "") for element in nodes]
-    if keys.name:
-        return {one: attributes.of(element).get(keys.name, one) for one, element in zip(ids, nodes)}
-    texts = [_drawn_text(element) for element in nodes]
-    whole = all(texts) and len(set(texts)) == len(texts)
-    return dict(zip(ids, texts if whole else ids))
-
-
-def _drawn_text(node: xml.Element) -> str:
-    """The text that yEd draws in a node."""
-    for data in (child for child in node if _tag(child) == "data"):
-        for element in data.iter():
-            if _tag(element) == "NodeLabel":
-                return " ".join((element.text or "").split())
-    return ""
-
-
-def _add_edges(file: str | Path, graph: xml.Element, maker: _Maker, names: dict[str, str]) -> bool:
-    """Adds the edges; returns whether some were undirected."""
-    directed_by_default = graph.get("edgedefault", "directed") == "directed"
+def _import_graphml(data: bytes, file: str, label: str | None, keys: Keys) -> Imported:
+    if len(data) > MAX_TEXT_BYTES:
+        raise Wrong(f"{file}: a text has at most {MAX_TEXT_BYTES:,} bytes, and this has more")
+    read, maker = read_graphml(data, file), _Maker(label)
+    drawn = [node.drawn for node in read.nodes]
+    by_text = all(drawn) and len(set(drawn)) == len(drawn)
+    names: dict[str, str] = {}
+    for node in read.nodes:
+        own = read.defaults | node.data
+        name = own.get(keys.name, node.id) if keys.name else node.drawn if by_text else node.id
+        names[node.id] = name
+        _at(file, node.line, maker.node, name, own.get(keys.label), own.get(keys.value), of=f"node {node.id}: ")
     undirected = False
-    for element in graph.iter():
-        if _tag(element) == "hyperedge":
-            raise WrongText(str(file), 1, "expected edges between two nodes, found a <hyperedge>")
-        if _tag(element) != "edge":
-            continue
-        ends = [names.get(element.get(end, ""), element.get(end, "")) for end in ("source", "target")]
-        _in_element(file, element, maker.edge, *ends)
-        if element.get("directed", "true" if directed_by_default else "false") == "false":
+    for edge in read.edges:
+        ends = [names.get(end, end) for end in edge[:2]]
+        _at(file, edge.line, maker.edge, *ends, of=f"edge {edge.source} -> {edge.target}: ")
+        if not edge.directed:
             undirected = True
-            _in_element(file, element, maker.edge, *reversed(ends))
-    return undirected
-
-
-def _in_element(file: str | Path, element: xml.Element, work: Callable[..., None], *arguments: Any) -> None:
-    """Does the work; what is wrong about it names file and element."""
-    try:
-        work(*arguments)
-    except (WrongGraph, WrongName) as error:
-        shown = element.get("id") or f"{element.get('source')} -> {element.get('target')}"
-        raise Wrong(f"{file}: {_tag(element)} {shown}: {error}") from None
+            _at(file, edge.line, maker.edge, *reversed(ends))
+    return maker.made(*(["undirected edges were written both ways"] if undirected else []))
 
 
 def from_networkx(network: Any, label: str = "label", value: str = "value") -> Graph:
@@ -238,7 +201,7 @@ def from_networkx(network: Any, label: str = "label", value: str = "value") -> G
 def to_networkx(graph: Graph) -> Any:
     """A networkx.DiGraph: nodes by name, or by id where there is none, with label and value."""
     try:
-        import networkx
+        import networkx  # type: ignore[import]
     except ImportError:
         raise Wrong("networkx is not installed: install it, or write GraphML with another tool") from None
     network = networkx.DiGraph()

@@ -8,10 +8,11 @@ from __future__ import annotations
 
 import ctypes
 import ctypes.util
+import operator
 import os
 import threading
 from pathlib import Path
-from typing import Callable, NamedTuple
+from typing import Callable, Iterator, NamedTuple, Sequence, Tuple
 
 from .numbers import ANSWERED, Refused
 from .wrong import LibraryMissing
@@ -24,17 +25,44 @@ PLAN_WORDS = 512  # always enough for the rows of a plan
 ROW_WORDS = 8
 FIRST_ROOM_WORDS = 1 << 16
 MOST_ROOM_WORDS = 1 << 28  # 1 GiB
+UPPER_MATCHES = 4  # the result of listing that has the upper 32 bits of the number of matches
 
 _Word = ctypes.c_uint32
 _Results = _Word * 8
 _stack_size_lock = threading.Lock()
 
 
+class Rows(Sequence[Tuple[int, ...]]):
+    """Rows of words in a room, made into tuples as they are asked for: there may be millions."""
+
+    def __init__(self, room: ctypes.Array, count: int, width: int):
+        self._count, self._width = count, width
+        self._words = memoryview(room).cast("B").cast("I")[: count * width]
+
+    def __len__(self) -> int:
+        return self._count
+
+    def __iter__(self) -> Iterator[tuple[int, ...]]:
+        return zip(*[iter(self._words)] * self._width)
+
+    def __getitem__(self, place):  # type: ignore[no-untyped-def]
+        if isinstance(place, slice):
+            return [self[at] for at in range(*place.indices(self._count))]
+        at = range(self._count)[place] * self._width
+        return tuple(self._words[at : at + self._width])
+
+    def __eq__(self, other: object) -> bool:
+        return isinstance(other, (Rows, list)) and len(self) == len(other) and all(map(operator.eq, self, other))
+
+    def __repr__(self) -> str:
+        return repr(list(self))
+
+
 class Planned(NamedTuple):
     """The bound T and the rows of a plan, 8 words each."""
 
     bound: int
-    rows: list[tuple[int, ...]]
+    rows: Rows
 
 
 class Listed(NamedTuple):
@@ -44,7 +72,7 @@ class Listed(NamedTuple):
     node_entries: int
     edge_entries: int
     bound: int
-    rows: list[tuple[int, ...]]
+    rows: Rows
 
 
 def checkout_library() -> Path:
@@ -157,7 +185,7 @@ def plan(store: bytes, pattern: bytes) -> Planned:
     )
     # p + q rows, as the pattern's header says; it is right, or the answer would be 6
     rows = int.from_bytes(pattern[4:8], "little") + int.from_bytes(pattern[8:12], "little")
-    return Planned(results[0], _rows(room, rows, ROW_WORDS))
+    return Planned(results[0], Rows(room, rows, ROW_WORDS))
 
 
 def list_matches(store: bytes, pattern: bytes, most_words: int = MOST_ROOM_WORDS) -> Listed:
@@ -182,13 +210,9 @@ def _list_once(store: bytes, pattern: bytes, work_words: int, room_words: int) -
             store, len(store), pattern, len(pattern), work, len(work), room, len(room), results
         ),
     )
-    matches = results[0] + (results[4] << 32)
+    matches = results[0] + (results[UPPER_MATCHES] << 32)
     width = int.from_bytes(pattern[4:8], "little")
-    return Listed(matches, results[1], results[2], results[3], _rows(room, matches, width))
-
-
-def _rows(room: ctypes.Array, count: int, width: int) -> list[tuple[int, ...]]:
-    return [tuple(room[row * width : (row + 1) * width]) for row in range(count)]
+    return Listed(matches, results[1], results[2], results[3], Rows(room, matches, width))
 
 
 def check_header(store: bytes) -> None:

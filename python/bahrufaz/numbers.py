@@ -29,7 +29,7 @@ _ADVICE = {
     4: "raise that N, or find out why the graph has more than was promised",
     5: "the index does not belong to the graph: build the store again from its .feed file",
     6: "write the pattern as a .pat file: its errors name the line",
-    7: "give the graph a constraint that reaches it from covered nodes; 'bahrufaz show' has those there are",
+    7: "give the graph a constraint that reaches it from covered nodes: 'bahrufaz measure FEED --for PATTERN' finds such",
     8: "figures multiply along the plan: give a smaller N, or a smaller pattern",
     9: "lend the working room that the plan's bound asks for",
     10: "lend a larger room, or narrow the pattern by conditions",
@@ -39,11 +39,11 @@ _ADVICE = {
 
 def sentence(call: str, number: int) -> str:
     """What the number says when this call gives it back."""
-    return _OF_CALL.get((call, number)) or _SENTENCES.get(number, "no such number is known")
+    return _OF_CALL.get((call, number), _SENTENCES.get(number, "no such number is known"))
 
 
 class Refused(Exception):
-    """A call gave back a number other than 0; detail says where, and advice what to do about it."""
+    """A call gave back a number other than 0: file and detail say where, advice what to do about it."""
 
     def __init__(self, call: str, number: int, detail: str = ""):
         self.call = call
@@ -51,4 +51,8 @@ class Refused(Exception):
         self.sentence = sentence(call, number)
         self.detail = detail
         self.advice = _ADVICE.get(number, "")
-        super().__init__(f"refused with {number}: {self.sentence}")
+        self.file = ""
+        super().__init__(call, number)
+
+    def __str__(self) -> str:
+        return f"{self.file}: refused with {self.number}: {self.sentence}".lstrip(": ")

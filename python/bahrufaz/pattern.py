@@ -5,13 +5,16 @@ from __future__ import annotations
 from pathlib import Path
 from typing import Iterable, NamedTuple, Sequence
 
-from . import feed, library
-from .files import write_whole
+from . import library
+from .files import read_most, write_whole
+from .lines import Line, Mistakes, sorted_lines, take_edge, take_label_name, take_lines, take_node_name
 from .names import Names, Naming
 from .numbers import Refused
 from .records import (
     MAX_CONDITIONS,
     MAX_LABEL,
+    MAX_PATTERN_BYTES,
+    MAX_PATTERN_EDGES,
     MAX_PATTERN_NODES,
     MAX_VALUE,
     MIN_VALUE,
@@ -20,9 +23,9 @@ from .records import (
     pattern_bytes,
     pattern_of,
 )
-from .text import Line, aligned, lines_of, read_text, spelled
+from .text import aligned, read_text, spelled
 from .whole import within
-from .wrong import WrongGraph, WrongName, WrongText
+from .wrong import WrongGraph, WrongName
 
 
 class PatternNode(NamedTuple):
@@ -40,6 +43,13 @@ class Pattern:
         self.names = Naming("pattern node")
         self.nodes: list[PatternNode] = []
         self.edges: set[tuple[int, int]] = set()
+        self.question = ""  # what a text asks: the comment that it begins with
+        self._file = ""
+        self._lines: dict[str | int, int] = {}  # where the text says what a label is, and what a node is
+
+    def __repr__(self) -> str:
+        asks = f": {self.question}" if self.question else ""
+        return f"<Pattern of {len(self.nodes)} nodes and {len(self.edges)} edges{asks}>"
 
     def add_node(
         self, name: str | None, label: str | int, conditions: Iterable[tuple[str, int]] = ()
@@ -73,6 +83,11 @@ class Pattern:
         self.edges.add(edge)
 
     @property
+    def is_of_text(self) -> bool:
+        """Whether it was read from a text, and not from bytes or made in code."""
+        return bool(self._file)
+
+    @property
     def edge_list(self) -> list[tuple[int, int]]:
         """The edges in pattern order."""
         return sorted(self.edges)
@@ -83,9 +98,20 @@ class Pattern:
 
     def encode(self, names: Names | None = None) -> bytes:
         """The bytes of the pattern; names give the numbers of labels that the pattern names."""
-        known = names.labels if names else Naming("label")
-        nodes = [(self._label_number(label, known), conditions) for label, conditions in self.nodes]
-        return pattern_bytes(nodes, self.edges)
+        return pattern_bytes(self.label_numbers(names), self.edges)
+
+    def label_numbers(self, names: Names | None = None) -> list[tuple[int, tuple[Condition, ...]]]:
+        """The number of each node's label, and its conditions."""
+        known, nodes, mistakes = names.labels if names else Naming("label"), [], Mistakes(self._file)
+        for place, (label, conditions) in enumerate(self.nodes):
+            try:
+                nodes.append((self._label_number(label, known), conditions))
+            except WrongName as error:
+                if not self._file:
+                    raise
+                mistakes.add(self._lines.get(label, 0) or self._lines[place], str(error))
+        mistakes.tell()
+        return nodes
 
     def _label_number(self, label: str | int, known: Naming) -> int:
         if isinstance(label, int):
@@ -112,19 +138,16 @@ class Pattern:
     @classmethod
     def of_text(cls, text: str, file: str = "text") -> Pattern:
         """The pattern of a .pat text."""
-        pattern, last = cls(), 1
-        lines: dict[str, list[Line]] = {kind: [] for kind in _TAKERS}
-        for line in lines_of(text, file):
-            lines[line.choose(lines, "label, node or edge")].append(line)
-            last = line.line
-        for kind, take in _TAKERS.items():
-            for line in lines[kind]:
-                try:
-                    take(line, pattern)
-                except (WrongName, WrongGraph) as error:
-                    raise line.error(str(error)) from None
-        if not pattern.nodes:
-            raise WrongText(file, last, "expected a node line: a pattern has at least one node")
+        pattern, mistakes = cls(), Mistakes(file)
+        pattern._file, pattern.question = file, _first_comment(text)
+        most = {"label": MAX_LABEL, "node": MAX_PATTERN_NODES, "edge": MAX_PATTERN_EDGES}
+        lines = sorted_lines(text, most, "label, node or edge", mistakes)
+        take_lines(lines["label"], _label_line, pattern, mistakes, _stand_in_label)
+        take_lines(lines["node"], _node_line, pattern, mistakes, _stand_in_node)
+        take_lines(lines["edge"], _edge_line, pattern, mistakes)
+        if not lines["node"]:
+            mistakes.add_if_none(lines, "expected a node line: a pattern has at least one node")
+        mistakes.tell()
         return pattern
 
     @classmethod
@@ -132,7 +155,7 @@ class Pattern:
         """Reads a .pat file; any other is read as the bytes of a pattern."""
         if Path(path).suffix == ".pat":
             return cls.of_text(read_text(path), str(path))
-        return cls.of_bytes(Path(path).read_bytes())
+        return cls.of_bytes(read_most(path, MAX_PATTERN_BYTES))
 
     def text(self, names: Names | None = None) -> str:
         """The .pat text; names spell the labels that are numbers."""
@@ -153,6 +176,12 @@ class Pattern:
     def write(self, path: str | Path, names: Names | None = None) -> None:
         """Writes a .pat file, whole or not at all."""
         write_whole(path, self.text(names))
+
+
+def _first_comment(text: str) -> str:
+    """The comment of the first line."""
+    first = text.partition("\n")[0].strip()
+    return first.lstrip("#").strip() if first.startswith("#") else ""
 
 
 def _checked(condition: tuple[str, int]) -> Condition:
@@ -183,19 +212,29 @@ _EMPTY_STORE = b"".join(word.to_bytes(4, "little") for word in [1, 0, 0, 0, 0, 0
 
 
 def _label_line(line: Line, pattern: Pattern) -> None:
-    name = feed.take_label_name(line)
+    name = take_label_name(line)
     pattern.labels.add(line.whole_number(f"the number of label {spelled(name)}", 1, MAX_LABEL), name)
     line.end()
+    pattern._lines[name] = line.line
+
+
+def _stand_in_label(name: str, pattern: Pattern) -> None:
+    if name not in pattern.labels:
+        pattern.labels.add(-len(pattern.labels), name)
 
 
 def _node_line(line: Line, pattern: Pattern) -> None:
-    name = feed.take_node_name(line, len(pattern.nodes))
+    name = take_node_name(line, len(pattern.nodes))
     label = _label(line)
     conditions = [_condition(line)] if line.peek() else []
     while line.skip("and"):
         conditions.append(_condition(line))
     line.end()
-    pattern.add_node(name, label, conditions)
+    pattern._lines[pattern.add_node(name, label, conditions)] = line.line
+
+
+def _stand_in_node(name: str, pattern: Pattern) -> None:
+    pattern.add_node(name if name and name not in pattern.names else None, 1)
 
 
 def _label(line: Line) -> str | int:
@@ -212,7 +251,4 @@ def _condition(line: Line) -> Condition:
 
 
 def _edge_line(line: Line, pattern: Pattern) -> None:
-    pattern.add_edge(*feed.take_edge(line))
-
-
-_TAKERS = {"label": _label_line, "node": _node_line, "edge": _edge_line}
+    pattern.add_edge(*take_edge(line))

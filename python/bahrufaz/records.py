@@ -2,8 +2,12 @@
 
 from __future__ import annotations
 
+import itertools
 import struct
-from typing import Iterable, NamedTuple, Sequence
+import sys
+from array import array
+from functools import cached_property
+from typing import Iterable, Iterator, NamedTuple, Sequence
 
 MAX_NODES = 65_535
 MAX_EDGES = 262_144
@@ -13,6 +17,9 @@ MAX_N = 65_535
 MIN_VALUE, MAX_VALUE = -(1 << 31), (1 << 31) - 1
 MAX_KEY_LABELS = 3
 MAX_PATTERN_NODES = 8
+MAX_PATTERN_EDGES = 56
+MAX_PATTERN_BYTES = 264  # 24 for the header, 16 for each of 8 nodes, 2 for each of 56 edges
+MAX_STORE_BYTES = 17_301_928
 MAX_CONDITIONS = 2
 OPERATORS = ("=", "<", ">", "<=", ">=")  # codes 1 to 5; 0 is none
 NO_NODE = 0xFFFF_FFFF  # an unused id of a group
@@ -23,8 +30,7 @@ _NODE = struct.Struct("<HHi")
 _EDGE = struct.Struct("<II")
 _CONSTRAINT = struct.Struct("<4HI")
 _GROUP = struct.Struct("<6I")
-_ENTRY = struct.Struct("<IB3x")
-_SECTIONS = (_NODE, _EDGE, _CONSTRAINT, _GROUP, _ENTRY)
+_RECORD_BYTES = (_NODE.size, _EDGE.size, _CONSTRAINT.size, _GROUP.size, 8)
 _PATTERN_HEADER = struct.Struct("<6I")
 _PATTERN_NODE = struct.Struct("<H2B2iI")
 
@@ -44,30 +50,56 @@ class Condition(NamedTuple):
     constant: int
 
 
-class Group(NamedTuple):
-    """A key that has a list: its constraint, its nodes, and where the list stands."""
+class Counts(NamedTuple):
+    """How many records each section of a store has."""
 
-    constraint: int
-    key: tuple[int, ...]
-    start: int
-    count: int
+    nodes: int
+    edges: int
+    constraints: int
+    groups: int
+    entries: int
 
 
-class Sections(NamedTuple):
-    """The records of a store."""
+class Sections:
+    """The records of a store whose header is right, a section at a time as they are asked for."""
 
-    nodes: list[tuple[int, int]]
-    edges: list[tuple[int, int]]
-    constraints: list[Constraint]
-    groups: list[Group]
-    entries: list[tuple[int, int]]
+    def __init__(self, store: bytes):
+        self._store, self._words = store, _HEADER.unpack_from(store)
+
+    def _part(self, section: int) -> memoryview:
+        return memoryview(self._store)[self._words[6 + section] : self._words[7 + section]]
+
+    @cached_property
+    def nodes(self) -> list[tuple[int, int]]:
+        return [(label, value) for label, _, value in _NODE.iter_unpack(self._part(0))]
+
+    @cached_property
+    def edges(self) -> list[tuple[int, int]]:
+        return list(_EDGE.iter_unpack(self._part(1)))  # type: ignore[arg-type]
+
+    @cached_property
+    def constraints(self) -> list[Constraint]:
+        records = _CONSTRAINT.iter_unpack(self._part(2))
+        return [Constraint(tuple(label for label in key if label), label, most) for *key, label, most in records]
+
+    def lists(self) -> Iterator[tuple[int, int]]:
+        """The constraint and the length of each list, in group order."""
+        words = array("I", self._part(3).tobytes())
+        if sys.byteorder == "big":
+            words.byteswap()
+        return zip(words[0::6], words[5::6])
+
+    def key(self, group: int) -> tuple[int, ...]:
+        """The nodes of a group's key."""
+        ids = _GROUP.unpack_from(self._part(3), group * _GROUP.size)[1:4]
+        return tuple(node for node in ids if node != NO_NODE)
 
 
 def _header(counts: Sequence[int]) -> bytes:
     """The header that these counts of records force."""
     ends = [_HEADER.size]
-    for count, record in zip(counts, _SECTIONS):
-        ends.append(ends[-1] + count * record.size)
+    for count, size in zip(counts, _RECORD_BYTES):
+        ends.append(ends[-1] + count * size)
     return _HEADER.pack(1, *counts, *ends)
 
 
@@ -80,7 +112,7 @@ def draft_bytes(
     edges = sorted(edges)
     parts = [_header((len(nodes), len(edges), len(constraints), 0, 0))]
     parts += [_NODE.pack(label, 0, value) for label, value in nodes]
-    parts += [_EDGE.pack(*edge) for edge in edges]
+    parts.append(struct.pack(f"<{2 * len(edges)}I", *itertools.chain.from_iterable(edges)))
     for key_labels, label, most in constraints:
         padded = tuple(key_labels) + (0,) * (MAX_KEY_LABELS - len(key_labels))
         parts.append(_CONSTRAINT.pack(*padded, label, most))
@@ -93,26 +125,22 @@ def draft_of(store: bytes) -> bytes:
     return _header((*words[1:4], 0, 0)) + store[_HEADER.size : words[9]]
 
 
+def bytes_said(data: bytes) -> int | None:
+    """How long a store is by its header, if this begins like one."""
+    if len(data) < _HEADER.size or int.from_bytes(data[:4], "little") != 1:
+        return None
+    words = _HEADER.unpack_from(data)
+    return words[11] if words[6] == _HEADER.size else None
+
+
 def is_draft(store: bytes) -> bool:
     """Whether a store whose header is right has neither groups nor entries."""
-    return _HEADER.unpack_from(store)[4:6] == (0, 0)
+    return counts_of(store)[3:] == (0, 0)
 
 
-def sections_of(store: bytes) -> Sections:
-    """The records of a store whose header is right."""
-    words = _HEADER.unpack_from(store)
-    starts, ends = words[6:11], words[7:12]
-    nodes, edges, constraints, groups, entries = (
-        record.iter_unpack(store[start:end])
-        for record, start, end in zip(_SECTIONS, starts, ends)
-    )
-    return Sections(
-        [(label, value) for label, _, value in nodes],
-        [(start, end) for start, end in edges],
-        [Constraint(tuple(l for l in (a, b, c) if l), label, n) for a, b, c, label, n in constraints],
-        [Group(c, tuple(i for i in ids if i != NO_NODE), at, n) for c, *ids, at, n in groups],
-        [(node, directions) for node, directions in entries],
-    )
+def counts_of(store: bytes) -> Counts:
+    """The counts in the header of a store."""
+    return Counts(*_HEADER.unpack_from(store)[1:6])
 
 
 def pattern_bytes(

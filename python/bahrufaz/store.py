@@ -2,13 +2,16 @@
 
 from __future__ import annotations
 
+from functools import cached_property
 from pathlib import Path
 
 from . import library
-from .files import write_together
-from .names import Names, are_names_of, names_path, names_text, read_names
+from .files import read_most, write_together
+from .markup import plain, table
+from .names import Names
+from .namesfile import are_names_of, names_path, names_text, read_names
 from .numbers import Refused
-from .records import Constraint, Sections, is_draft, sections_of
+from .records import MAX_STORE_BYTES, Constraint, Counts, Sections, counts_of, is_draft
 
 
 class Store:
@@ -24,7 +27,19 @@ class Store:
     def _take(self, data: bytes, names: Names | None) -> None:
         self._data = data
         self.names = names or Names()
-        self._sections: Sections | None = None
+
+    def __repr__(self) -> str:
+        counts = ", ".join(f"{count} {name}" for name, count in self.counts._asdict().items())
+        return f"<{type(self).__name__}: {counts}, {len(self.data)} bytes>"
+
+    def _repr_html_(self) -> str:
+        """What a notebook shows: the constraints, and how near their lists are to N."""
+        names = self.names
+        rows = (
+            (names.key(one.key_labels), names.labels.name(one.label), one.most, keys, longest)
+            for one, (keys, longest, _) in zip(self.constraints, self.longest_lists())
+        )
+        return f"<p>{plain(repr(self)[1:-1])}</p>{table(('for each', 'of', 'at most', 'lists', 'longest'), rows, (2, 3, 4))}"
 
     @property
     def data(self) -> bytes:
@@ -34,10 +49,10 @@ class Store:
     @classmethod
     def read(cls, path: str | Path, names: Names | None = None) -> Store:
         """Reads a store; its names come from the .names file beside it, if there is one."""
-        data, beside = Path(path).read_bytes(), names_path(path)
+        store, beside = cls(read_most(path, MAX_STORE_BYTES), names), names_path(path)
         if names is None and beside.exists():
-            names = read_names(beside, data)
-        return cls(data, names)
+            store.names = read_names(beside, store.data)
+        return store
 
     def write(self, path: str | Path) -> Path | None:
         """Writes the bytes, and the names beside them if there are any; returns where those are.
@@ -55,12 +70,15 @@ class Store:
         """The store as one to list from, if its index is the one that building gives; else Refused."""
         return AdmittedStore(self.data, self.names)
 
-    @property
+    @cached_property
     def sections(self) -> Sections:
         """The records. They are as they stand: nothing but admitting says that they are right."""
-        if self._sections is None:
-            self._sections = sections_of(self.data)
-        return self._sections
+        return Sections(self.data)
+
+    @property
+    def counts(self) -> Counts:
+        """How many nodes, edges, constraints, groups and entries there are."""
+        return counts_of(self.data)
 
     @property
     def constraints(self) -> list[Constraint]:
@@ -68,14 +86,13 @@ class Store:
 
     def longest_lists(self) -> list[tuple[int, int, tuple[int, ...]]]:
         """For each constraint: how many keys have a list, the longest list, and the first key with it."""
-        longest = [(0, 0, ())] * len(self.constraints)
-        for group in self.sections.groups:
-            if group.constraint < len(longest):
-                keys, most, key = longest[group.constraint]
-                if group.count > most:
-                    most, key = group.count, group.key
-                longest[group.constraint] = (keys + 1, most, key)
-        return longest
+        keys, most, first = ([0] * len(self.constraints) for _ in range(3))
+        for group, (constraint, count) in enumerate(self.sections.lists()):
+            if constraint < len(keys):
+                keys[constraint] += 1
+                if count > most[constraint]:
+                    most[constraint], first[constraint] = count, group
+        return [(had, long, self.sections.key(group) if long else ()) for had, long, group in zip(keys, most, first)]
 
 
 class AdmittedStore(Store):

@@ -1,41 +1,58 @@
-"""Answers as tables, CSV and JSON."""
+"""Answers as tables, CSV and JSON, line by line, so that a long one can be written as it is made."""
 
 from __future__ import annotations
 
 import csv
 import io
+import itertools
 import json
-from typing import Any, Iterable, Sequence
+from typing import Any, Callable, Iterable, Iterator, Sequence
 
 from .calls import Listing, Plan
 from .numbers import Refused
 from .store import AdmittedStore, Store
-from .text import text_width
+from .text import text_width, visible
 
 UNCHECKED = "unchecked: whether this store is admitted was not asked, so matches may be missing"
 
 
-def table(head: Sequence[str], rows: Iterable[Sequence[object]]) -> str:
-    """Columns under their heads; columns of numbers stand to the right."""
-    body = [list(row) for row in rows]
-    columns = list(zip(head, *body))
-    right = [_is_numbers(column[1:]) for column in columns]
-    widths = [max(map(text_width, map(str, column))) for column in columns]
-    lines = []
-    for row in [head, *body]:
-        cells = [_in_column(str(cell), *column) for cell, *column in zip(row, widths, right)]
-        lines.append("  ".join(cells).rstrip())
-    return "\n".join(lines)
+def table(head: Sequence[str], rows: Iterable[Sequence[object]]) -> Iterator[str]:
+    """Columns under their heads; columns of numbers stand to the right. The rows are gone through twice."""
+    again: Iterable[Sequence[object]] = rows
+    if not isinstance(rows, _Again):
+        again = list(rows)
+    shown = [visible(cell) for cell in head]
+    widths, right = [text_width(cell) for cell in shown], [False] * len(head)
+    words = [False] * len(head)
+    for row in again:
+        for at, cell in enumerate(row):
+            text = str(cell)
+            if isinstance(cell, int):
+                right[at] = True
+            elif text:
+                words[at], text = True, visible(text)
+            width = text_width(text)
+            if width > widths[at]:
+                widths[at] = width
+    sides = [number and not word for number, word in zip(right, words)]
+    for row in itertools.chain([shown], again):
+        yield "  ".join(map(_in_column, row, widths, sides)).rstrip()
 
 
-def _is_numbers(cells: Sequence[object]) -> bool:
-    """Whether there are numbers, and beside them at most empty places."""
-    return any(isinstance(cell, int) for cell in cells) and all(isinstance(c, int) or c == "" for c in cells)
+def _in_column(cell: object, width: int, right: bool) -> str:
+    text = visible(cell) if isinstance(cell, str) else str(cell)
+    blanks = " " * (width - text_width(text))
+    return blanks + text if right else text + blanks
 
 
-def _in_column(cell: str, width: int, right: bool) -> str:
-    blanks = " " * (width - text_width(cell))
-    return blanks + cell if right else cell + blanks
+class _Again:
+    """Rows that are made anew each time they are gone through, and never all kept."""
+
+    def __init__(self, make: Callable[[], Iterator[Sequence[object]]]):
+        self._make = make
+
+    def __iter__(self) -> Iterator[Sequence[object]]:
+        return self._make()
 
 
 def counted(count: int, one: str, many: str) -> str:
@@ -43,34 +60,54 @@ def counted(count: int, one: str, many: str) -> str:
     return f"1 {one}" if count == 1 else f"{count:,} {many}"
 
 
-def marked(store: Store, text: str) -> str:
+def marked(store: Store, lines: Iterable[str]) -> Iterator[str]:
     """An answer about a store; the first line says so where it is not admitted."""
-    return text if isinstance(store, AdmittedStore) else f"{UNCHECKED}\n{text}"
+    return itertools.chain([] if isinstance(store, AdmittedStore) else [UNCHECKED], lines)
 
 
-def refusal_json(refused: Refused) -> str:
-    told = {"answer": refused.number, "sentence": refused.sentence, "advice": refused.advice}
-    return _json(told | ({"detail": refused.detail} if refused.detail else {}))
+def csv_lines(head: Sequence[str], rows: Iterable[Sequence[object]]) -> Iterator[str]:
+    """A line of columns and a line for each row; a cell with a line feed in it goes over two."""
+    for row in itertools.chain([head], rows):
+        text = io.StringIO()
+        csv.writer(text, lineterminator="").writerow(row)
+        yield text.getvalue()
 
 
-def _json(told: dict[str, Any]) -> str:
+def json_lines(told: dict[str, Any]) -> Iterator[str]:
     """JSON with a line for each member, and for each element of a list of rows."""
-    members = ",\n".join(f"  {_line(name)}: {_member(value)}" for name, value in told.items())
-    return f"{{\n{members}\n}}"
+    yield "{"
+    for left, (name, value) in zip(range(len(told) - 1, -1, -1), told.items()):
+        comma = "," if left else ""
+        if isinstance(value, _Again) or (isinstance(value, list) and any(isinstance(row, (list, dict)) for row in value)):
+            yield f"  {_json(name)}: ["
+            yield from _json_rows(value)
+            yield f"  ]{comma}"
+        else:
+            yield f"  {_json(name)}: {_json(value)}{comma}"
+    yield "}"
 
 
-def _member(value: Any) -> str:
-    if not isinstance(value, list) or not any(isinstance(row, (list, dict)) for row in value):
-        return _line(value)
-    rows = ",\n".join(f"    {_line(row)}" for row in value)
-    return f"[\n{rows}\n  ]"
+def _json_rows(rows: Iterable[object]) -> Iterator[str]:
+    before = None
+    for row in rows:
+        if before is not None:
+            yield f"    {before},"
+        before = _json(row)
+    if before is not None:
+        yield f"    {before}"
 
 
-def _line(value: Any) -> str:
-    return json.dumps(value, ensure_ascii=False)
+def _json(value: Any) -> str:
+    return visible(json.dumps(value, ensure_ascii=False))
 
 
-def plan_text(plan: Plan) -> str:
+def refusal_json(refused: Refused) -> Iterator[str]:
+    told = {"answer": refused.number, "sentence": refused.sentence, "advice": refused.advice}
+    more = {"file": refused.file, "detail": refused.detail}
+    return json_lines(told | {name: value for name, value in more.items() if value})
+
+
+def plan_text(plan: Plan) -> Iterator[str]:
     """The bound, then a row for each step."""
     names = plan.pattern.names
     rows = [
@@ -84,12 +121,12 @@ def plan_text(plan: Plan) -> str:
         )
         for step, row in enumerate(plan.rows, 1)
     ]
-    head = ("step", "for", "fetches", "by constraint", "from", "figure")
-    bound = counted(plan.bound, "entry", "entries")
-    return f"T = {plan.bound}: listing reads at most {bound}\n\n{table(head, rows)}"
+    yield f"T = {plan.bound}: listing reads at most {counted(plan.bound, 'entry', 'entries')}"
+    yield ""
+    yield from table(("step", "for", "fetches", "by constraint", "from", "figure"), rows)
 
 
-def plan_json(plan: Plan) -> str:
+def plan_json(plan: Plan) -> Iterator[str]:
     names = plan.pattern.names
     rows = [
         {
@@ -102,37 +139,46 @@ def plan_json(plan: Plan) -> str:
         }
         for step, row in enumerate(plan.rows, 1)
     ]
-    return _json({"answer": 0, "bound": plan.bound, "rows": rows})
+    return json_lines({"answer": 0, "bound": plan.bound, "rows": rows})
 
 
-def listing_rows(listing: Listing, ids: bool) -> list[list[object]]:
-    """The matches, by name or by id."""
-    shown = (lambda node: node) if ids else listing.store.names.nodes.name_or_number
-    return [[shown(node) for node in row] for row in listing.rows]
+def listing_rows(listing: Listing, ids: bool, limit: int | None) -> _Again:
+    """The first matches, or all, by name or by id."""
+    if ids:
+        return _Again(lambda: map(list, itertools.islice(listing.rows, limit)))
+    shown = listing.store.names.nodes.name_or_number
+    return _Again(lambda: ([shown(node) for node in row] for row in itertools.islice(listing.rows, limit)))
 
 
-def listing_text(listing: Listing, ids: bool) -> str:
-    """What was found and read, then a row for each match."""
+def matches_text(listing: Listing, limit: int | None = None) -> str:
+    """How many matches there are, and how many of them are shown."""
     matches = counted(listing.matches, "match", "matches") if listing.matches else "no match"
-    told = (
-        f"{matches}; {counted(listing.entries, 'entry', 'entries')} read of at most {listing.bound:,} "
+    cut = limit is not None and limit < listing.matches
+    return f"{matches}, the first {limit:,} shown" if cut else matches
+
+
+def found_and_read(listing: Listing, limit: int | None = None) -> str:
+    """How much was found, and what was read for it."""
+    return (
+        f"{matches_text(listing, limit)}; {counted(listing.entries, 'entry', 'entries')} read of at most {listing.bound:,} "
         f"({listing.node_entries:,} for nodes, {listing.edge_entries:,} for edges)"
     )
-    if listing.matches:
-        told += f"\n\n{table(listing.pattern.node_names(), listing_rows(listing, ids))}"
-    return marked(listing.store, told)
 
 
-def listing_csv(listing: Listing, ids: bool) -> str:
-    text = io.StringIO()
-    writer = csv.writer(text, lineterminator="\n")
-    writer.writerow(listing.pattern.node_names())
-    writer.writerows(listing_rows(listing, ids))
-    return text.getvalue().rstrip("\n")
+def listing_text(listing: Listing, ids: bool, limit: int | None) -> Iterator[str]:
+    """What was found and read, then a row for each match."""
+    yield from marked(listing.store, [found_and_read(listing, limit)])
+    if listing.matches and limit != 0:
+        yield ""
+        yield from table(listing.pattern.node_names(), listing_rows(listing, ids, limit))
 
 
-def listing_json(listing: Listing, ids: bool) -> str:
-    return _json(
+def listing_csv(listing: Listing, ids: bool, limit: int | None) -> Iterator[str]:
+    return csv_lines(listing.pattern.node_names(), listing_rows(listing, ids, limit))
+
+
+def listing_json(listing: Listing, ids: bool, limit: int | None) -> Iterator[str]:
+    return json_lines(
         {
             "answer": 0,
             "admitted": listing.admitted,
@@ -141,7 +187,7 @@ def listing_json(listing: Listing, ids: bool) -> str:
             "edge_entries": listing.edge_entries,
             "bound": listing.bound,
             "nodes": listing.pattern.node_names(),
-            "rows": listing_rows(listing, ids),
+            "rows": listing_rows(listing, ids, limit),
         }
     )
 
@@ -178,36 +224,36 @@ def counts_text(store: Store) -> str:
         ("group", "groups"),
         ("entry", "entries"),
     )
-    told = [counted(len(records), *word) for records, word in zip(store.sections, words)]
+    told = [counted(count, *word) for count, word in zip(store.counts, words)]
     return ", ".join(told + [counted(len(store.data), "byte", "bytes")])
 
 
-def store_text(store: Store) -> str:
+def store_text(store: Store) -> Iterator[str]:
     """What is in a store."""
-    parts = [counts_text(store), table(("label", "number", "nodes"), _labels(store))]
-    head = ("no.", "constraint", "N", "lists", "longest", "of")
-    parts.append(table(head, _constraints(store)))
-    if not store.sections.groups:
-        parts.append("There is no index: this is a draft, or no key has a list.")
-    return marked(store, "\n\n".join(parts))
+    yield from marked(store, [counts_text(store), ""])
+    yield from table(("label", "number", "nodes"), _labels(store))
+    yield ""
+    yield from table(("no.", "constraint", "N", "lists", "longest", "of"), _constraints(store))
+    if not store.counts.groups:
+        yield ""
+        yield "There is no index: this is a draft, or no key has a list."
 
 
-def store_json(store: Store) -> str:
-    nodes, edges, constraints, groups, entries = map(len, store.sections)
-    return _json(
+def store_json(store: Store) -> Iterator[str]:
+    labels = [{"name": name, "number": number, "nodes": count} for name, number, count in _labels(store)]
+    constraints = [
+        {"number": place, "constraint": text, "N": most, "lists": keys, "longest": longest, "of": key}
+        for place, text, most, keys, longest, key in _constraints(store)
+    ]
+    return json_lines(
         {
             "admitted": isinstance(store, AdmittedStore),
             "bytes": len(store.data),
-            "nodes": nodes,
-            "edges": edges,
-            "groups": groups,
-            "entries": entries,
-            "labels": [
-                {"name": name, "number": number, "nodes": count} for name, number, count in _labels(store)
-            ],
-            "constraints": [
-                {"number": place, "constraint": text, "N": most, "lists": keys, "longest": longest, "of": key}
-                for place, text, most, keys, longest, key in _constraints(store)
-            ],
+            "nodes": store.counts.nodes,
+            "edges": store.counts.edges,
+            "groups": store.counts.groups,
+            "entries": store.counts.entries,
+            "labels": labels,
+            "constraints": constraints,
         }
     )

@@ -43,7 +43,7 @@ class Commands(CommandCase):
         self.assertEqual((status, out), (1, ""))
         self.assertEqual(
             err,
-            "bahrufaz: refused with 4: a list of the graph exceeds its N\n"
+            "bahrufaz: world.feed: refused with 4: a list of the graph exceeds its N\n"
             "  locale -> format at most 1: the list of english has 2\n"
             "  raise that N, or find out why the graph has more than was promised\n",
         )
@@ -156,7 +156,7 @@ class Commands(CommandCase):
     def test_import_measure_and_build(self):
         edges, nodes = str(EXAMPLES / "import" / "edges.csv"), str(EXAMPLES / "import" / "nodes.csv")
         out = self.answer("import", edges, "--nodes", nodes, "-o", "got.feed")
-        self.assertEqual(out, "got.feed: 7 nodes, 6 edges, 4 labels; now type its constraints into it\n")
+        self.assertEqual(out, "got.feed: 7 nodes, 6 edges, 4 labels; now give it constraints: see 'bahrufaz measure'\n")
         lines = self.answer("measure", "got.feed")
         self.assertIn("constraint locale -> format at most 1\n", lines)
         with open("got.feed", "a", encoding="utf-8") as file:
@@ -191,15 +191,17 @@ class Commands(CommandCase):
         self.assert_status(2, "invalid choice", "guess")
         self.assert_status(2, "x.feed: a store is to be written, and .feed is the text", "build", "world.feed", "-o", "x.feed")
         self.assert_status(2, "expected a whole number, found '-1'", "list", "--room", "-1", "world.feed", "a.pat")
-        self.assert_status(2, "a.pat is a text, and a graph is asked for", "build", "a.pat", "-o", "a.store")
-        self.assert_status(2, "world.feed is a text, and a store", "admit", "world.feed")
-        self.assert_status(2, "a.pat is a text, and a store or a .feed file is asked for", "list", "a.pat", "world.feed")
-        self.assert_status(2, "world.feed is a text, and a pattern is asked for", "list", "world.feed", "world.feed")
+        self.assert_status(2, "a.pat is the text of a pattern, and a graph is asked for", "build", "a.pat", "-o", "a.store")
+        self.assert_status(2, "world.feed is the text of a graph, and a store", "admit", "world.feed")
+        self.assert_status(2, "world.feed is the text of a graph, and a pattern is asked for", "list", "world.feed", "world.feed")
         self.assert_status(2, "a store is needed to draw the plan", "draw", "--what", "plan", "a.pat")
 
     def test_every_command_has_help_with_an_example(self):
         overview = self.answer("--help")
-        for command in ("build", "admit", "plan", "list", "show", "draw", "import", "measure", "text", "pattern"):
+        from bahrufaz.command import _COMMANDS
+
+        self.assertEqual(len(_COMMANDS), 12)
+        for command in _COMMANDS:
             self.assertIn(f"    {command} ", overview)
             told = self.answer(command, "--help")
             self.assertIn(f"example:\n  bahrufaz {command} ", told)

@@ -121,8 +121,8 @@ class GraphMl(InDirectory):
     def test_errors(self):
         for body, message in {
             "": "g.graphml:1: expected a <graphml> element with one <graph>",
-            '<graph><node id="a"/></graph>': "g.graphml: node a: the node has no label: give --label NAME",
-            '<graph><node id="a"><data key="k">x</data></node><edge source="a" target="b"/></graph>': "g.graphml: edge a -> b: "
+            '<graph><node id="a"/></graph>': "g.graphml:1: node a: the node has no label: give --label NAME",
+            '<graph><node id="a"><data key="k">x</data></node><edge source="a" target="b"/></graph>': "g.graphml:1: edge a -> b: "
             "no node is named b",
             "<graph><hyperedge/></graph>": "expected edges between two nodes, found a <hyperedge>",
             "<graph>": "g.graphml:1: expected XML: mismatched tag",

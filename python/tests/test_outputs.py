@@ -125,7 +125,7 @@ class WritingOver(CommandCase):
         self.addCleanup(os.close, reader)
         self.answer("draw", "world.feed", "a.pat", "-o", f"/dev/fd/{writer}")
         os.close(writer)
-        self.assertTrue(os.read(reader, 100).startswith(b"digraph {"))
+        self.assertTrue(os.read(reader, 100).startswith(b"digraph "))
 
 
 class Together(CommandCase):

@@ -1,5 +1,6 @@
 """The package: installed by pip without the network, and one version everywhere."""
 
+import ast
 import importlib.util
 import os
 import re
@@ -12,12 +13,13 @@ import tempfile
 import unittest
 import zipfile
 from pathlib import Path
+from unittest import mock
 
 import bahrufaz
 from bahrufaz import library
 from bahrufaz.numbers import sentence
 
-from .worlds import CHECKOUT, SMALL
+from .worlds import CHECKOUT, PATTERN_A, SMALL
 
 HAS_PIP = importlib.util.find_spec("pip") is not None
 
@@ -115,6 +117,88 @@ class Sentences(unittest.TestCase):
             self.assertIn(sentence("admit", 5), text, file)
             self.assertIn("also g or e not 0", text, file)
         self.assertTrue(sentence("build", 1).endswith("also g or e not 0"))
+
+
+class Names(unittest.TestCase):
+    def test_every_name_is_there_and_told_to_type_checkers(self):
+        for name in bahrufaz.__all__:
+            self.assertIsNotNone(getattr(bahrufaz, name))
+            self.assertIn(name, dir(bahrufaz))
+        with self.assertRaises(AttributeError):
+            bahrufaz.nothing
+        text = (CHECKOUT / "python" / "bahrufaz" / "__init__.py").read_text()
+        imported = re.search(r"^if TYPE_CHECKING:\n((?:    .*\n)+)", text, re.MULTILINE)[1]
+        told = [name.split(" as ")[-1] for line in imported.splitlines() for name in line.split(" import ")[1].split(", ")]
+        self.assertEqual(sorted(told), bahrufaz.__all__)
+
+
+class Modules(unittest.TestCase):
+    def test_no_two_modules_import_each_other(self):
+        wants = {path.stem: imported(path) for path in (CHECKOUT / "python" / "bahrufaz").glob("*.py")}
+        wants = {name: modules & wants.keys() for name, modules in wants.items() if not name.startswith("__")}
+        self.assertIn("feed", wants["graph"])
+        while wants:  # the modules that want none of those left are taken away, until none is left
+            free = {name for name, modules in wants.items() if not modules & wants.keys()}
+            self.assertTrue(free, f"these import each other: {sorted(wants)}")
+            wants = {name: modules for name, modules in wants.items() if name not in free}
+
+    def test_types_are_told(self):
+        self.assertTrue((CHECKOUT / "python" / "bahrufaz" / "py.typed").exists())
+
+
+def imported(path: Path) -> set[str]:
+    """The modules beside it that a module imports, for type checking too."""
+    found = set()
+    for node in ast.walk(ast.parse(path.read_text(encoding="utf-8"))):
+        if isinstance(node, ast.ImportFrom) and node.level == 1:
+            found |= {node.module} if node.module else {name.name for name in node.names}
+    return found
+
+
+class Notebooks(unittest.TestCase):
+    def setUp(self):
+        self.store, self.pattern = bahrufaz.Graph.read(SMALL).build(), bahrufaz.Pattern.read(PATTERN_A)
+
+    def test_tables(self):
+        listing = bahrufaz.list(self.store, self.pattern)
+        self.assertIn("<td>german</td><td>comma</td><td>weight</td><td>feeding</td>", listing._repr_html_())
+        self.assertIn("<td>locale -&gt; format at most 1</td>", bahrufaz.plan(self.store, self.pattern)._repr_html_())
+        self.assertIn("<td>locale</td><td>format</td>", self.store._repr_html_())
+
+    def test_a_long_listing_is_cut(self):
+        graph = bahrufaz.Graph()
+        for _ in range(60):
+            graph.add_node(None, 1)
+        graph.add_constraint([], 1, 60)
+        pattern = bahrufaz.Pattern()
+        pattern.add_node("<b>", 1)
+        told = bahrufaz.list(graph.build(), pattern)._repr_html_()
+        self.assertEqual(told.count("<tr>"), 51)
+        self.assertIn("<p>10 more</p>", told)
+        self.assertIn("&lt;b&gt;", told)
+
+    def test_pictures(self):
+        drawn = bahrufaz.draw_matches(bahrufaz.list(self.store, self.pattern))
+        if shutil.which("dot"):
+            self.assertIn("<svg", drawn._repr_svg_())
+        with mock.patch("shutil.which", return_value=None):
+            self.assertIsNone(drawn._repr_svg_())
+
+    def test_reprs(self):
+        told = [bahrufaz.Graph.read(SMALL), self.store, self.pattern, self.store.names]
+        told += [bahrufaz.plan(self.store, self.pattern), bahrufaz.list(self.store, self.pattern), bahrufaz.draw_pattern(self.pattern)]
+        self.assertEqual(
+            [repr(one) for one in told],
+            [
+                "<Graph: 7 nodes, 6 edges, 4 constraints>",
+                "<AdmittedStore: 7 nodes, 6 edges, 4 constraints, 7 groups, 8 entries, 432 bytes>",
+                "<Pattern of 4 nodes and 3 edges: Pattern A: the fields that use a format of locale 2, with the screens they stand on.>",
+                "<Names of 4 labels and 7 nodes>",
+                "<Plan: T = 38, 7 steps>",
+                "<Listing: 1 matches, 8 entries read of at most 38>",
+                "<Picture: the pattern>",
+            ],
+        )
 
 
 class Versions(unittest.TestCase):

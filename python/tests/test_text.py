@@ -1,12 +1,14 @@
 """The text forms: what is read, what is written back, and what errors say."""
 
+import random
 import tempfile
 import unittest
 from pathlib import Path
+from unittest import mock
 
-from bahrufaz import Graph, Names, Pattern, Store, WrongGraph, WrongName, WrongText
+from bahrufaz import Graph, Names, Pattern, Store, WrongGraph, WrongName, WrongText, feed
 from bahrufaz.files import write_whole
-from bahrufaz.names import names_path, names_text, read_names
+from bahrufaz.namesfile import names_path, names_text, read_names
 from bahrufaz.text import aligned, spelled
 
 from .worlds import EXAMPLES, random_pattern, random_world, small_world
@@ -75,6 +77,34 @@ class RoundTrips(unittest.TestCase):
         self.assertEqual(aligned([("重量", "1"), ("weight", "2")]), ["重量    1", "weight  2"])
 
 
+def told(text: str) -> object:
+    """What a text gives: a draft with its names, or its mistakes."""
+    try:
+        graph = Graph.of_text(text)
+    except WrongText as error:
+        return str(error)
+    return graph.draft(), graph.names.nodes.items(), graph.names.labels.items()
+
+
+def random_spelling(seed: int) -> str:
+    """The text of a random world with blanks, comments and quotes as people type them, and now and then a mistake."""
+    draw = random.Random(seed)
+    lines = random_world(seed).text().split("\n")
+    for place in draw.sample(range(len(lines)), len(lines) // 3):
+        line = lines[place]
+        lines[place] = draw.choice(
+            [
+                f"  {line}\t # said",
+                line.replace(" -> ", draw.choice(["->", " →  ", "  ->\t", " - > ", " -> -> "])),
+                line.replace("value = ", draw.choice(["value=", "value =  ", "value == ", "value = -"])),
+                line.replace("node ", draw.choice(["node\t ", "node", "nodes ", 'node"x"'])),
+                f"{line} {draw.choice(['more', '#', '1', chr(34)])}",
+                line[: draw.randrange(len(line) + 1)],
+            ]
+        )
+    return "\n".join(lines)
+
+
 class FeedErrors(unittest.TestCase):
     HEAD = "label x 1\nlabel y 2\nnode a x\nnode b y\n"
 
@@ -105,11 +135,15 @@ class FeedErrors(unittest.TestCase):
             "node c x value = 2.5": "expected a value, a whole number from -2,147,483,648 to 2,147,483,647, found '2.5'",
             "node c x value = 2147483648": "expected a value, a whole number from -2,147,483,648 to 2,147,483,647, "
             "found '2147483648'",
-            "edge a b": "expected ->, found 'b'",
+            "edge a b": "expected ->, found 'b'; a name with a blank in it is quoted, as \"a b\"",
+            "edge a -> b c": "expected the end of the line, found 'c'; a name with a blank in it is quoted, as \"b c\"",
+            "node body weight x": "expected value =, found 'x'; a name with a blank in it is quoted, as \"body weight\"",
+            "label body weight": "expected the number of label body, a whole number from 1 to 65,535, found 'weight'; "
+            "a name with a blank in it is quoted, as \"body weight\"",
             "edge a -> c": "no node is named c",
             "edge a -> 2": "no node has the id 2: there are 2 nodes, from id 0",
             "edge a -> a": "an edge joins two different nodes, and a -> a does not",
-            "constraint x y -> x at most 1": "expected ->, found 'y'",
+            "constraint x y -> x at most 1": "expected a comma or ->, found 'y'; a name with a blank in it is quoted, as \"x y\"",
             "constraint x -> y": "expected at most, found the end of the line",
             "constraint x -> y at most 0": "expected N, a whole number from 1 to 65,535, found '0'",
             "constraint x, x -> y at most 1": "a constraint has at most 3 labels before ->, each once",
@@ -121,6 +155,36 @@ class FeedErrors(unittest.TestCase):
             with self.subTest(line=line):
                 self.assert_error(line, message)
 
+    def test_all_mistakes_at_once_in_line_order(self):
+        text = "edge a -> d\nnode a z\nlabel y 0\nnode b y\nedge a -> b\nnode 2 y\nedge a -> 2\nconstraint -> z at most 1\n"
+        with self.assertRaises(WrongText) as caught:
+            Graph.of_text(text, "w")
+        self.assertEqual(
+            str(caught.exception),
+            "w:1: no node is named d\n"
+            "w:2: no label is named z\n"
+            "w:3: expected the number of label y, a whole number from 1 to 65,535, found '0'\n"
+            "w:8: no label is named z",
+        )
+        self.assertEqual([one.line for one in caught.exception.mistakes], [1, 2, 3, 8])
+
+    def test_of_very_many_mistakes_the_first_are_told(self):
+        with self.assertRaises(WrongText) as caught:
+            Graph.of_text("".join(f"node n{place} x\n" for place in range(3_000)), "w")
+        lines = str(caught.exception).split("\n")
+        self.assertEqual((len(lines), lines[0], lines[-1]), (21, "w:1: no label is named x", "w: 980 more mistakes"))
+
+    def test_lines_and_names_have_a_length(self):
+        self.assert_error(f"node {'n' * 1_001} x", "a name has at most 1,000 characters, and this has 1,001")
+        self.assert_error(f"node {'n' * 200_000} x", "a line has at most 100,000 characters, and this has 200,007")
+        self.assert_error(f"edge a -> {'n' * 500}", f"no node is named {'n' * 60}..")
+
+    def test_names_that_a_terminal_would_act_on_are_spelled_visibly(self):
+        for name, shown in {"a\x1b[31m": '"a\\u001b[31m"', "\x9b2J": '"\\u009b2J"', "a\u202eb": '"a\\u202eb"'}.items():
+            self.assertEqual(spelled(name), shown)
+            self.assertEqual(Graph.of_text(f"label x\nnode {shown} x\n").names.nodes.name(0), name)
+        self.assert_error("knot\x1b[31m", "expected label, node, edge or constraint, found 'knot\\u001b[31m'")
+
     def test_the_second_of_two_is_named(self):
         for line, message in {
             "edge a -> b\nedge 0 -> 1": "the edge a -> b is there already",
@@ -130,13 +194,20 @@ class FeedErrors(unittest.TestCase):
                 Graph.of_text(self.HEAD + line, "w.feed")
             self.assertEqual(str(caught.exception), f"w.feed:6: {message}")
 
+    def test_lines_as_they_mostly_are_are_read_as_word_by_word(self):
+        for seed in range(150):
+            text = random_spelling(seed)
+            quick = told(text)
+            with mock.patch.object(feed, "_quick_node", return_value=False), mock.patch.object(feed, "_quick_edge", return_value=False):
+                self.assertEqual(told(text), quick, text)
+
     def test_a_near_name_is_hinted_at(self):
         with self.assertRaisesRegex(WrongText, "^w:2: no label is named feild; did you mean field\\?$"):
             Graph.of_text("label field\nnode a feild", "w")
 
     def test_limits_of_a_store(self):
         lines = "".join(f"constraint -> {label} at most 1\n" for label in range(1, 34))
-        with self.assertRaisesRegex(WrongText, "^w:33: a store has at most 32 constraints$"):
+        with self.assertRaisesRegex(WrongText, "^w:33: there are at most 32 constraint lines$"):
             Graph.of_text(lines + "no nodes", "w")
         graph = Graph()
         graph.nodes = [(1, 0)] * 65_535
@@ -206,19 +277,37 @@ class PatternErrors(unittest.TestCase):
         self.assert_error("node a x\nedge a -> a", "2: an edge joins two different nodes, and a -> a does not")
         self.assert_error("node a 0", "1: expected a label, a whole number from 1 to 65,535, found '0'")
         nine = "".join(f"node n{place} x\n" for place in range(9))
-        self.assert_error(nine, "9: a pattern has at most 8 nodes")
+        self.assert_error(nine, "9: there are at most 8 node lines")
 
     def test_labels_come_from_the_graph_or_the_pattern(self):
         names = small_world().names
-        with self.assertRaisesRegex(WrongName, "no label is named fild; did you mean field\\?"):
+        with self.assertRaisesRegex(WrongText, "text:1: no label is named fild; did you mean field\\?"):
             Pattern.of_text("node a fild").encode(names)
-        with self.assertRaisesRegex(WrongName, "no label is named field"):
+        with self.assertRaisesRegex(WrongText, "text:1: no label is named field"):
             Pattern.of_text("node a field").encode()
+        made = Pattern()
+        made.add_node("a", "fild")
+        with self.assertRaisesRegex(WrongName, "^no label is named fild; did you mean field\\?$"):
+            made.encode(names)
         own = Pattern.of_text("label field 4\nnode a field")
         self.assertEqual(own.encode(), own.encode(names))
-        other = Pattern.of_text("label field 5\nnode a field")
-        with self.assertRaisesRegex(WrongName, "label field is 5 in the pattern and 4 in the graph"):
+        other = Pattern.of_text("node a field\nnode b fild\n\nlabel field 5", "a.pat")
+        with self.assertRaises(WrongText) as caught:
             other.encode(names)
+        self.assertEqual(
+            str(caught.exception),
+            "a.pat:2: no label is named fild; did you mean field?\n"
+            "a.pat:4: label field is 5 in the pattern and 4 in the graph",
+        )
+
+    def test_all_mistakes_at_once_in_line_order(self):
+        self.assert_error(
+            "edge a -> c\nnode a x value = 1.5\nnod b x\nnode c y\nedge c -> d\nlabel y 0\n",
+            "2: expected a constant, a whole number from -2,147,483,648 to 2,147,483,647, found '1.5'\n"
+            "a.pat:3: expected label, node or edge, found 'nod'\n"
+            "a.pat:5: no pattern node is named d\n"
+            "a.pat:6: expected the number of label y, a whole number from 1 to 65,535, found '0'",
+        )
 
 
 class NamesFiles(unittest.TestCase):
@@ -249,6 +338,34 @@ class NamesFiles(unittest.TestCase):
         self.path.write_bytes(world.build().data)
         with self.assertRaisesRegex(WrongText, "world.names:2: these are the names of another store"):
             Store.read(self.path)
+
+    def test_a_long_file_is_looked_into(self):
+        graph = Graph()
+        graph.add_label("x")
+        for place in range(3_000):
+            graph.add_node(f"n{place}" if place % 3 else f"n {place}", "x")
+        store = graph.build()
+        store.write(self.path)
+        again = Store.read(self.path)
+        self.assertEqual([again.names.nodes.name(node) for node in (0, 1, 2_997)], ["n 0", "n1", "n 2997"])
+        self.assertFalse("_whole" in vars(again.names.nodes))
+        self.assertEqual(again.names.nodes.name(3_000), "3000")
+        self.assertEqual(again.names.nodes, store.names.nodes)
+        self.assertEqual(again.names.nodes.number("n7"), 7)
+
+    def test_a_long_file_in_another_order_is_read_whole(self):
+        graph = Graph()
+        graph.add_label("x")
+        for place in range(3_000):
+            graph.add_node(f"n{place}", "x")
+        store = graph.build()
+        store.write(self.path)
+        lines = names_path(self.path).read_text().splitlines()
+        for swapped in (lines[:2] + lines[:1:-1], lines[:10] + [lines[11], lines[10]] + lines[12:], lines[:-1]):
+            names_path(self.path).write_text("\n".join(swapped) + "\n")
+            again = Store.read(self.path).names.nodes
+            self.assertEqual([again.name(node) for node in range(10)], [f"n{node}" for node in range(10)])
+        self.assertEqual(again.name(2_999), "2999")
 
     def test_wrong_names(self):
         store = small_world().build()
