@@ -152,6 +152,9 @@ export declare function conditionsText(conditions: Condition[]): string;
 /** The text of a file's bytes; throws WrongText where they are no UTF-8. */
 export declare function textOfBytes(bytes: Uint8Array, file: string): string;
 
+/** A whole number with commas between its thousands. */
+export declare function grouped(number: number | bigint): string;
+
 export declare function countsOf(store: Uint8Array): {
   nodes: number;
   edges: number;

@@ -13,5 +13,5 @@ export { refusal } from './numbers.mjs';
 export { Graph, graphOfText } from './graph.mjs';
 export { Pattern, conditionsText, patternOfText } from './pattern.mjs';
 export { Names, Naming, namesOfText } from './names.mjs';
-export { Wrong, WrongText, textOfBytes } from './text.mjs';
+export { Wrong, WrongText, grouped, textOfBytes } from './text.mjs';
 export { constraintsOf, countsOf, draftBytes, edgesOf, nodesOf, patternBytes } from './records.mjs';

@@ -1,0 +1,73 @@
+// Places for the nodes of a pattern that nobody has drawn yet. Places are parts of the board's width and height.
+
+const ACROSS = [0.06, 0.28, 0.5, 0.72, 0.94]; // where a node may stand in its layer
+const TURNS = 4;
+const NEAR = 0.2; // an arrow this near to a node seems to touch it
+
+/** How many arrows lead to each node at most, and sources moved next to what they lead to. */
+function layersOf(count, edges) {
+  const layers = Array(count).fill(0);
+  for (let turn = 1; turn < count; turn++)
+    for (const [from, to] of edges) layers[to] = Math.min(count - 1, Math.max(layers[to], layers[from] + 1));
+  for (let node = 0; node < count; node++) {
+    const after = edges.filter(([from]) => from === node).map(([, to]) => layers[to]);
+    if (after.length && !edges.some(([, to]) => to === node)) layers[node] = Math.max(0, Math.min(...after) - 1);
+  }
+  const used = [...new Set(layers)].sort((a, b) => a - b);
+  return layers.map((layer) => used.indexOf(layer));
+}
+
+/** How far a point is from the line between two others. */
+function distance(point, from, to) {
+  const dx = to.x - from.x, dy = to.y - from.y, length = dx * dx + dy * dy;
+  const part = length ? Math.min(1, Math.max(0, ((point.x - from.x) * dx + (point.y - from.y) * dy) / length)) : 0;
+  return Math.hypot(point.x - from.x - part * dx, point.y - from.y - part * dy);
+}
+
+const side = (a, b, c) => Math.sign((b.x - a.x) * (c.y - a.y) - (b.y - a.y) * (c.x - a.x));
+const cross = ([a, b], [c, d]) => side(a, b, c) * side(a, b, d) < 0 && side(c, d, a) * side(c, d, b) < 0;
+
+/** How hard a layout is to read: nodes on nodes, arrows over nodes, arrows that cross, long arrows. */
+function cost(places, edges) {
+  const lines = edges.map((edge) => edge.map((node) => places[node]));
+  let sum = 0;
+  places.forEach((place, node) => {
+    for (const other of places.slice(node + 1)) if (Math.hypot(place.x - other.x, place.y - other.y) < NEAR) sum += 20;
+    edges.forEach((edge, number) => (sum += !edge.includes(node) && distance(place, ...lines[number]) < NEAR ? 8 : 0));
+  });
+  lines.forEach((line, number) => {
+    sum += lines.slice(number + 1).filter((other) => cross(line, other)).length * 3;
+    sum += Math.hypot(line[0].x - line[1].x, line[0].y - line[1].y);
+  });
+  return sum;
+}
+
+/** Moves one node after another to where its layer is easiest to read. */
+function settle(places, edges) {
+  for (let turn = 0; turn < TURNS; turn++)
+    for (const place of places) {
+      const costs = ACROSS.map((y) => {
+        place.y = y;
+        return cost(places, edges);
+      });
+      place.y = ACROSS[costs.indexOf(Math.min(...costs))];
+    }
+  return places;
+}
+
+/** Nodes in layers along the longer side of the board. */
+export function placesFor(count, edges, isTall) {
+  const layers = layersOf(count, edges), depth = Math.max(0, ...layers) + 1;
+  const places = layers.map((layer, node) => {
+    const mates = layers.slice(0, node).filter((other) => other === layer).length;
+    return { x: depth === 1 ? 0.5 : layer / (depth - 1), y: ACROSS[(2 + mates + (layer % 2)) % ACROSS.length] };
+  });
+  return settle(places, edges).map(({ x, y }) => (isTall ? { x: y, y: x } : { x, y }));
+}
+
+/** A free place near the middle for one more node. */
+export function freePlace(nodes) {
+  const far = (place) => Math.min(1, ...nodes.map(({ x, y }) => Math.hypot(x - place.x, y - place.y)));
+  const places = [0.5, 0.25, 0.75, 0.12, 0.88].flatMap((y) => [0.5, 0.3, 0.7, 0.14, 0.86].map((x) => ({ x, y })));
+  return places.find((place) => far(place) > 0.24) ?? places.reduce((best, place) => (far(place) > far(best) ? place : best));
+}
