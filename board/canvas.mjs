@@ -5,6 +5,7 @@ import { arrowHead, arrowPath, clipped, fillOf, shownConditions } from './shapes
 
 const MOVED = 7; // so many pixels are a drag and no tap
 const STEP = 0.025; // how far an arrow key moves a node
+const SIDE = 26, TOP = 24, BOTTOM = 60; // pixels that stay free; the hint stands at the foot
 
 export class Canvas {
   /** asks: addAt(place, from), select(what), connect(from, to), move(node, place, tag), remove(what), changed(). */
@@ -26,24 +27,26 @@ export class Canvas {
     return { width: Math.max(width, 240), height: Math.max(height, 200) };
   }
 
-  get isTall() {
-    return this.size.height > this.size.width;
-  }
-
   get box() {
     return this.size.width < 560 ? { width: 104, height: 54 } : { width: 132, height: 58 };
   }
 
+  /** The room in which the middles of boxes may stand. */
+  get frame() {
+    const { width, height } = this.size, box = this.box;
+    return { left: box.width / 2 + SIDE, top: box.height / 2 + TOP, width: width - box.width - 2 * SIDE, height: height - box.height - TOP - BOTTOM, box };
+  }
+
   /** Parts of the whole as pixels, and back. */
   toPixels({ x, y }) {
-    const { width, height } = this.size, box = this.box;
-    return { x: box.width / 2 + 26 + x * (width - box.width - 52), y: box.height / 2 + 22 + y * (height - box.height - 44) };
+    const { left, top, width, height } = this.frame;
+    return { x: left + x * width, y: top + y * height };
   }
 
   toPlace({ x, y }) {
-    const { width, height } = this.size, box = this.box;
+    const { left, top, width, height } = this.frame;
     const part = (value) => Math.min(1, Math.max(0, value));
-    return { x: part((x - box.width / 2 - 26) / (width - box.width - 52)), y: part((y - box.height / 2 - 22) / (height - box.height - 44)) };
+    return { x: part((x - left) / width), y: part((y - top) / height) };
   }
 
   point(event) {

@@ -83,8 +83,8 @@ export class Drawing {
   }
 
   /** Lays the nodes out afresh; nothing but places changes, so this is no step to be undone where nobody drew. */
-  arrange(isTall) {
-    const places = placesFor(this.state.nodes.length, this.state.edges, isTall);
+  arrange(frame) {
+    const places = placesFor(this.state.nodes.length, this.state.edges, frame);
     const put = ({ nodes }) => nodes.forEach((node, number) => Object.assign(node, places[number]));
     if (this.placed) this.change(put);
     else put(this.state);

@@ -1,8 +1,9 @@
 // Places for the nodes of a pattern that nobody has drawn yet. Places are parts of the board's width and height.
 
-const ACROSS = [0.06, 0.28, 0.5, 0.72, 0.94]; // where a node may stand in its layer
+const ACROSS = [0, 0.25, 0.5, 0.75, 1]; // where a node may stand in its layer
 const TURNS = 4;
-const NEAR = 0.2; // an arrow this near to a node seems to touch it
+const FREE = 20; // pixels to be kept between boxes
+const SHORT = 3.2; // an arrow of fewer half boxes has no room for its figure
 
 /** How many arrows lead to each node at most, and sources moved next to what they lead to. */
 function layersOf(count, edges) {
@@ -27,42 +28,55 @@ function distance(point, from, to) {
 const side = (a, b, c) => Math.sign((b.x - a.x) * (c.y - a.y) - (b.y - a.y) * (c.x - a.x));
 const cross = ([a, b], [c, d]) => side(a, b, c) * side(a, b, d) < 0 && side(c, d, a) * side(c, d, b) < 0;
 
-/** How hard a layout is to read: nodes on nodes, arrows over nodes, arrows that cross, long arrows. */
-function cost(places, edges) {
-  const lines = edges.map((edge) => edge.map((node) => places[node]));
+/** A place as pixels, in units of half a box: two boxes touch where both differences are below 2. */
+function inBoxes({ x, y }, { width, height, box }) {
+  return { x: (2 * x * width) / (box.width + FREE), y: (2 * y * height) / (box.height + FREE) };
+}
+
+/** How hard a layout is to read: boxes on boxes, arrows over boxes, arrows that cross, long and short arrows. */
+function cost(places, edges, frame) {
+  const at = places.map((place) => inBoxes(place, frame));
+  const lines = edges.map((edge) => edge.map((node) => at[node]));
   let sum = 0;
-  places.forEach((place, node) => {
-    for (const other of places.slice(node + 1)) if (Math.hypot(place.x - other.x, place.y - other.y) < NEAR) sum += 20;
-    edges.forEach((edge, number) => (sum += !edge.includes(node) && distance(place, ...lines[number]) < NEAR ? 8 : 0));
+  at.forEach((place, node) => {
+    for (const other of at.slice(node + 1)) if (Math.abs(place.x - other.x) < 2 && Math.abs(place.y - other.y) < 2) sum += 40;
+    edges.forEach((edge, number) => (sum += !edge.includes(node) && distance(place, ...lines[number]) < 1.1 ? 12 : 0));
   });
   lines.forEach((line, number) => {
-    sum += lines.slice(number + 1).filter((other) => cross(line, other)).length * 3;
-    sum += Math.hypot(line[0].x - line[1].x, line[0].y - line[1].y);
+    sum += lines.slice(number + 1).filter((other) => cross(line, other)).length * 5;
+    const length = Math.hypot(line[0].x - line[1].x, line[0].y - line[1].y);
+    sum += length / 4 + 6 * Math.max(0, SHORT - length);
   });
   return sum;
 }
 
 /** Moves one node after another to where its layer is easiest to read. */
-function settle(places, edges) {
+function settle(places, edges, frame, across) {
   for (let turn = 0; turn < TURNS; turn++)
     for (const place of places) {
-      const costs = ACROSS.map((y) => {
-        place.y = y;
-        return cost(places, edges);
+      const costs = ACROSS.map((part) => {
+        place[across] = part;
+        return cost(places, edges, frame);
       });
-      place.y = ACROSS[costs.indexOf(Math.min(...costs))];
+      place[across] = ACROSS[costs.indexOf(Math.min(...costs))];
     }
   return places;
 }
 
-/** Nodes in layers along the longer side of the board. */
-export function placesFor(count, edges, isTall) {
+/** Nodes in layers that go along one side of the board. */
+function layered(count, edges, frame, along, across) {
   const layers = layersOf(count, edges), depth = Math.max(0, ...layers) + 1;
   const places = layers.map((layer, node) => {
     const mates = layers.slice(0, node).filter((other) => other === layer).length;
-    return { x: depth === 1 ? 0.5 : layer / (depth - 1), y: ACROSS[(2 + mates + (layer % 2)) % ACROSS.length] };
+    return { [along]: depth === 1 ? 0.5 : layer / (depth - 1), [across]: ACROSS[(2 + mates + (layer % 2)) % ACROSS.length] };
   });
-  return settle(places, edges).map(({ x, y }) => (isTall ? { x: y, y: x } : { x, y }));
+  return settle(places, edges, frame, across);
+}
+
+/** Places for so many nodes: layers from left to right or from top to bottom, whichever is easier to read. */
+export function placesFor(count, edges, frame) {
+  const [flat, tall] = [layered(count, edges, frame, 'x', 'y'), layered(count, edges, frame, 'y', 'x')];
+  return cost(flat, edges, frame) <= cost(tall, edges, frame) ? flat : tall;
 }
 
 /** A free place near the middle for one more node. */

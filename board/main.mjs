@@ -139,7 +139,7 @@ class Board {
     if (!this.drawing) return;
     if (!this.drawing.listed && this.results.listing?.title === this.drawing.title) this.results.hide();
     for (const drawing of this.drawings) if (!this.judgements.has(drawing) || drawing === this.drawing) this.judge(drawing);
-    if (!this.drawing.placed) this.drawing.arrange(this.canvas.isTall);
+    if (!this.drawing.placed) this.drawing.arrange(this.canvas.frame);
     this.keepSelection();
     this.show();
     remember(this);
@@ -297,7 +297,7 @@ class Board {
     const judgement = this.judgements.get(drawing), { world } = this;
     if (judgement?.kind !== 'planned') return;
     drawing.listed = await this.desk.ask({ kind: 'list', store: world.store, pattern: judgement.bytes });
-    drawing.listing = drawing.listed.answer === 0 ? new Listing(drawing.listed, drawing, judgement, world) : null;
+    drawing.listing = drawing.listed.answer === 0 ? new Listing(drawing, judgement, world, this.canvas.size) : null;
     if (drawing === this.drawing) this.showList(drawing);
     this.show();
   }
@@ -319,7 +319,7 @@ class Board {
     click('add-node', () => this.addNode(null));
     click('undo', () => this.edit((drawing) => drawing.undo()));
     click('redo', () => this.edit((drawing) => drawing.redo()));
-    click('tidy', () => this.edit((drawing) => drawing.arrange(this.canvas.isTall)));
+    click('tidy', () => this.edit((drawing) => drawing.arrange(this.canvas.frame)));
     click('save-pattern', () => this.save());
     click('new-pattern', () => this.newPattern());
     click('list-all', () => this.listAll());

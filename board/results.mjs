@@ -10,9 +10,10 @@ const byText = new Intl.Collator(undefined, { numeric: true }).compare;
 
 /** A listing with its names: what the page shows and keeps. */
 export class Listing {
-  constructor(listed, drawing, judgement, world) {
-    const { names } = world.names.nodes;
+  constructor(drawing, judgement, world, board) {
+    const { names } = world.names.nodes, { listed } = drawing;
     Object.assign(this, { listed, title: drawing.title, state: drawing.state, world });
+    this.aspect = Math.min(1, Math.max(0.45, board.height / board.width)); // pictures have the shape of the board
     this.columns = judgement.pattern.nodeNames();
     this.labels = drawing.state.nodes.map(({ label }) => world.numberOf(label));
     this.rows = Array.from({ length: listed.matches }, (_, row) =>
@@ -53,8 +54,8 @@ export class Listing {
   }
 
   /** The match as it was drawn. */
-  picture(row, size) {
-    return picture(this.state.nodes, this.state.edges, row.map(String), this.labels, size);
+  picture(row) {
+    return picture(this.state.nodes, this.state.edges, row.map(String), this.labels, this.aspect);
   }
 }
 
@@ -152,7 +153,7 @@ export class Results {
       h('h2', {}, listing.title),
       h('p', {}, listing.state.question),
       h('p', {}, `${listing.world.title}, ${new Date().toLocaleDateString()}. ${listing.summary}.`),
-      listing.picture(names, { width: 460, height: 240 }),
+      listing.picture(names),
       h('table', {}, h('thead', {}, h('tr', {}, listing.columns.map((name) => h('th', {}, name)))), h('tbody', {}, rows.slice(0, PRINTED_ROWS).map(tableRow))),
       rows.length > PRINTED_ROWS && h('p', {}, `The first ${grouped(PRINTED_ROWS)} of ${grouped(rows.length)} rows; the CSV file has all.`),
     );

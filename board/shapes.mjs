@@ -40,9 +40,12 @@ export function arrowHead(id, colour) {
 
 let pictures = 0;
 
-/** A small picture: the drawing with these texts in its nodes. nodes have x and y as parts of the whole. */
-export function picture(nodes, edges, texts, labels, { width = 360, height = 200, box = { width: 98, height: 30 } } = {}) {
-  const at = ({ x, y }) => ({ x: box.width / 2 + 4 + x * (width - box.width - 8), y: box.height / 2 + 4 + y * (height - box.height - 8) });
+/** A small picture: the drawing with these texts in its nodes, cut to the height that they take. */
+export function picture(nodes, edges, texts, labels, aspect) {
+  const width = 380, box = { width: 98, height: 30 }, scale = width * aspect - box.height;
+  const lowest = Math.min(...nodes.map(({ y }) => y)), highest = Math.max(...nodes.map(({ y }) => y));
+  const height = Math.round((highest - lowest) * scale + box.height + 20);
+  const at = ({ x, y }) => ({ x: box.width / 2 + 8 + x * (width - box.width - 16), y: box.height / 2 + 10 + (y - lowest) * scale });
   const head = `head-${++pictures}`;
   const places = nodes.map(at);
   const isPair = ([a, b]) => edges.some(([c, d]) => a === d && b === c);
