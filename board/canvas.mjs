@@ -18,6 +18,8 @@ export class Canvas {
     this.svg.addEventListener('pointermove', (event) => this.drag(event));
     this.svg.addEventListener('pointerup', (event) => this.release(event));
     this.svg.addEventListener('pointercancel', () => this.letGo());
+    // without this the click that follows a touch would fall on whatever the touch has opened
+    this.svg.addEventListener('touchend', (event) => event.cancelable && event.preventDefault(), { passive: false });
     this.svg.addEventListener('keydown', (event) => this.key(event));
     new ResizeObserver(() => this.asks.changed()).observe(this.svg);
   }

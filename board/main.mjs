@@ -305,7 +305,8 @@ class Board {
   showList(drawing) {
     if (drawing.listing) this.results.show(drawing.listing);
     else this.results.refuse(drawing.listed);
-    find('results').scrollIntoView({ behavior: 'smooth', block: 'nearest' });
+    const isCalm = matchMedia('(prefers-reduced-motion: reduce)').matches;
+    find('results').scrollIntoView({ behavior: isCalm ? 'instant' : 'smooth', block: 'nearest' });
   }
 
   async listAll() {

@@ -57,6 +57,7 @@ class Browser:
             "--touch-events=enabled",
             "--force-device-scale-factor=1",
             "--hide-scrollbars",
+            "--force-prefers-reduced-motion",
             f"--window-size={width},{height}",
         ):
             options.add_argument(argument)
@@ -71,6 +72,11 @@ class Browser:
     def open(self, url: str) -> None:
         self.driver.get(url)
         self.wait("body[data-ready]")
+
+    def forget(self, url: str) -> None:
+        """Takes away what the page has kept."""
+        kept = {"origin": url.rstrip("/"), "storageTypes": "local_storage"}
+        self.driver.execute_cdp_cmd("Storage.clearDataForOrigin", kept)
 
     def close(self) -> None:
         self.driver.quit()
@@ -103,9 +109,9 @@ class Browser:
         self.until(lambda: wanted in self.text(selector), f"{wanted!r} in {selector}: {self.text(selector)!r}")
 
     def middle(self, selector: str) -> tuple[int, int]:
-        """Where an element's middle is, once it is in sight."""
+        """Where an element's middle is, once it is in sight; the board is brought there whole."""
         place = self.run(
-            "const e = document.querySelector(arguments[0]); e.scrollIntoView({block: 'center', behavior: 'instant'});"
+            "const e = document.querySelector(arguments[0]); (e.closest('#canvas') ?? e).scrollIntoView({block: 'center', behavior: 'instant'});"
             "const r = e.getBoundingClientRect(); return [r.left + r.width / 2, r.top + r.height / 2]",
             selector,
         )
