@@ -1,15 +1,19 @@
-// assemble.mjs WASM OUT: puts the page together for a static server (index.html with its modules).
+// assemble.mjs WASM OUT: puts the page together. OUT/index.html with its modules is for a static server;
+// OUT/bahrufaz-board.html is the same page in one file, which opens from a folder too.
 
 import crypto from 'node:crypto';
 import fs from 'node:fs';
 import path from 'node:path';
 import { fileURLToPath } from 'node:url';
+import { oneFile } from './onefile.mjs';
 import { WORLD_FILES } from './worlds.mjs';
 
 const [, , wasm, out] = process.argv;
 const root = fileURLToPath(new URL('..', import.meta.url));
-const NOT_SERVED = ['assemble.mjs', 'serve.mjs'];
-const modules = (folder) => fs.readdirSync(path.join(root, folder)).filter((name) => name.endsWith('.mjs') && !NOT_SERVED.includes(name)).map((name) => `${folder}/${name}`);
+const NOT_SERVED = ['assemble.mjs', 'onefile.mjs', 'serve.mjs'];
+
+const modules = (folder) =>
+  fs.readdirSync(path.join(root, folder)).filter((name) => name.endsWith('.mjs') && !NOT_SERVED.includes(name)).map((name) => `${folder}/${name}`);
 
 /** Where each file of the page comes from. */
 function pageFiles() {
@@ -24,14 +28,19 @@ function write(name, data) {
   fs.writeFileSync(path.join(out, name), data);
 }
 
-fs.rmSync(out, { recursive: true, force: true });
-const sum = crypto.createHash('sha256'), names = ['./'];
-for (const [name, from] of pageFiles()) {
-  const data = fs.readFileSync(from);
-  sum.update(name).update(data);
-  write(name, data);
-  names.push(name);
+/** The service worker with the list of files, and a version that follows what is in them. */
+function serviceWorker(files) {
+  const sum = crypto.createHash('sha256');
+  for (const [name, from] of files) sum.update(name).update(fs.readFileSync(from));
+  const names = ['./', ...files.keys()].map((name) => `'${name}'`).join(', ');
+  const text = fs.readFileSync(path.join(root, 'board/sw.js'), 'utf8');
+  return text.replace('@VERSION@', `bahrufaz-${sum.digest('hex').slice(0, 16)}`).replace("'@FILES@'", names);
 }
-const worker = fs.readFileSync(path.join(root, 'board/sw.js'), 'utf8');
-write('sw.js', worker.replace('@VERSION@', `bahrufaz-${sum.digest('hex').slice(0, 16)}`).replace("'@FILES@'", names.map((name) => `'${name}'`).join(', ')));
-console.log(`board: ${out} has ${names.length} files`);
+
+fs.rmSync(out, { recursive: true, force: true });
+const files = pageFiles();
+for (const [name, from] of files) write(name, fs.readFileSync(from));
+write('sw.js', serviceWorker(files));
+const assets = ['bahrufaz.wasm', ...WORLD_FILES].map((name) => [name, fs.readFileSync(files.get(name)).toString('base64')]);
+write('bahrufaz-board.html', oneFile((name) => fs.readFileSync(path.join(root, name), 'utf8'), assets));
+console.log(`board: ${out} has index.html for a static server, and bahrufaz-board.html for a folder`);

@@ -5,7 +5,7 @@ import { arrowHead, arrowPath, clipped, fillOf, shownConditions } from './shapes
 
 const MOVED = 7; // so many pixels are a drag and no tap
 const STEP = 0.025; // how far an arrow key moves a node
-const SIDE = 26, TOP = 24, BOTTOM = 60; // pixels that stay free; the hint stands at the foot
+const SIDE = 26, TOP = 26, BOTTOM = 16; // pixels that stay free
 
 export class Canvas {
   /** asks: addAt(place, from), select(what), connect(from, to), move(node, place, tag), remove(what), changed(). */
@@ -163,7 +163,7 @@ export class Canvas {
 
   edge(edge, number, { nodes, edges, places, selection, mark }) {
     const isPair = edges.some(([a, b]) => a === edge[1] && b === edge[0]);
-    const { d, middle } = arrowPath(places[edge[0]], places[edge[1]], this.box, isPair);
+    const { d, plate } = arrowPath(places[edge[0]], places[edge[1]], this.box, isPair);
     const isSelected = selection?.kind === 'edge' && selection.number === number;
     const name = `${nodes[edge[0]].name} to ${nodes[edge[1]].name}`;
     const head = mark?.tone === 'red' ? 'head-red' : isSelected ? 'head-blue' : 'head';
@@ -172,7 +172,7 @@ export class Canvas {
       { class: `edge ${mark?.tone ?? ''} ${isSelected ? 'selected' : ''}`, tabindex: 0, role: 'button', 'data-edge': number, 'data-key': `edge ${number}`, 'aria-label': `arrow ${name}${mark ? `, ${mark.said}` : ''}` },
       s('path', { d, class: 'reach' }),
       s('path', { d, class: 'arrow', 'marker-end': `url(#${head})` }),
-      mark?.text && this.plate(mark.text, 'figure', middle),
+      mark?.text && this.plate(mark.text, 'figure', plate),
     );
   }
 

@@ -5,17 +5,27 @@ const TURNS = 4;
 const FREE = 20; // pixels to be kept between boxes
 const SHORT = 3.2; // an arrow of fewer half boxes has no room for its figure
 
+/** Whether arrows lead from one node to another. */
+function leads(edges, from, to, seen = new Set()) {
+  if (from === to) return true;
+  seen.add(from);
+  return edges.some(([a, b]) => a === from && !seen.has(b) && leads(edges, b, to, seen));
+}
+
+/** The arrows less those that would lead back. */
+function forward(edges) {
+  return edges.reduce((taken, [from, to]) => (leads(taken, to, from) ? taken : [...taken, [from, to]]), []);
+}
+
 /** How many arrows lead to each node at most, and sources moved next to what they lead to. */
 function layersOf(count, edges) {
-  const layers = Array(count).fill(0);
-  for (let turn = 1; turn < count; turn++)
-    for (const [from, to] of edges) layers[to] = Math.min(count - 1, Math.max(layers[to], layers[from] + 1));
+  const layers = Array(count).fill(0), onward = forward(edges);
+  for (let turn = 1; turn < count; turn++) for (const [from, to] of onward) layers[to] = Math.max(layers[to], layers[from] + 1);
   for (let node = 0; node < count; node++) {
-    const after = edges.filter(([from]) => from === node).map(([, to]) => layers[to]);
-    if (after.length && !edges.some(([, to]) => to === node)) layers[node] = Math.max(0, Math.min(...after) - 1);
+    const after = onward.filter(([from]) => from === node).map(([, to]) => layers[to]);
+    if (after.length && !onward.some(([, to]) => to === node)) layers[node] = Math.min(...after) - 1;
   }
-  const used = [...new Set(layers)].sort((a, b) => a - b);
-  return layers.map((layer) => used.indexOf(layer));
+  return layers;
 }
 
 /** How far a point is from the line between two others. */

@@ -20,7 +20,7 @@ function border(from, to, { width, height }) {
   return { x: from.x + dx * part, y: from.y + dy * part };
 }
 
-/** The path of an arrow between two boxes; one of a pair both ways round is bent. */
+/** The path of an arrow between two boxes, and where its figure stands; one of a pair both ways round is bent. */
 export function arrowPath(from, to, size, isBent) {
   const length = Math.hypot(to.x - from.x, to.y - from.y) || 1;
   const bend = isBent ? 26 : 0;
@@ -29,7 +29,9 @@ export function arrowPath(from, to, size, isBent) {
     y: (from.y + to.y) / 2 + ((to.x - from.x) / length) * bend,
   };
   const start = border(from, middle, size), end = border(to, middle, { width: size.width + 12, height: size.height + 12 });
-  return { d: `M${start.x},${start.y} Q${middle.x},${middle.y} ${end.x},${end.y}`, middle };
+  const part = isBent ? 0.3 : 0.5; // the figures of a pair stand near the starts, so that both can be read
+  const at = (axis) => (1 - part) ** 2 * start[axis] + 2 * part * (1 - part) * middle[axis] + part ** 2 * end[axis];
+  return { d: `M${start.x},${start.y} Q${middle.x},${middle.y} ${end.x},${end.y}`, plate: { x: at('x'), y: at('y') } };
 }
 
 /** The head of every arrow in one picture; id keeps two pictures apart. */

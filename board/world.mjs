@@ -40,7 +40,7 @@ export function showWorld(world) {
 
 /** Says that nothing was opened, and why; the world before it stays open. */
 export function showRefusedWorld(title, { answer, sentence, advice, detail = [] }) {
-  find('world').prepend(warning(h('p', {}, h('strong', {}, `${title} is refused with ${answer}: `), sentence), ...detail.map((line) => h('p', {}, line)), h('p', {}, advice)));
+  find('world').prepend(warning(h('p', {}, h('strong', {}, `${title} is refused with ${answer}: `), sentence), ...detail.map((line) => h('p', {}, line)), h('p', {}, `${advice[0].toUpperCase()}${advice.slice(1)}.`)));
 }
 
 export function showWrong(title, reason) {

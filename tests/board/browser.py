@@ -137,7 +137,6 @@ class Browser:
         self.driver.switch_to.active_element.send_keys(*keys)
 
     def give_files(self, selector: str, *paths: Path) -> None:
-        self.run("document.querySelector(arguments[0]).hidden = false", selector)
         self.all(selector)[0].send_keys("\n".join(map(str, paths)))
 
     def kept(self, name: str) -> str:

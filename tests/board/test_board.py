@@ -8,7 +8,7 @@ import tempfile
 import unittest
 from pathlib import Path
 
-from browser import CHECKOUT, Browser, Server
+from browser import CHECKOUT, PAGE, Browser, Server
 from selenium.webdriver.common.keys import Keys
 
 EXAMPLES = CHECKOUT / "examples"
@@ -90,7 +90,7 @@ class Page(unittest.TestCase):
         return self.browser.run(ROWS)
 
 
-class Drawing(Page):
+class Touch(Page):
     def test_a_first_visit_shows_the_small_world_admitted_and_its_bound(self):
         self.assert_text("#admitted", "admitted: building it afresh gives the same bytes")
         self.assertEqual(self.browser.text("#t"), "38")
@@ -139,6 +139,8 @@ class Drawing(Page):
         self.assertEqual(self.state()["edges"], before["edges"])
         self.assertTrue(self.browser.all("#undo[disabled]"))
 
+
+class Drawing(Page):
     def test_an_arrow_is_tapped_turned_and_deleted(self):
         self.browser.run("document.querySelector('[data-key=\"edge 0\"]').focus()")
         self.browser.keys(Keys.ENTER)
@@ -394,8 +396,8 @@ def large_feed(count: int) -> str:
     return "\n".join(lines) + "\n"
 
 
-class Tall(Drawing):
-    """The same drawing in a window of a telephone's size."""
+class TouchOnATelephone(Touch):
+    """The same in a small window."""
 
     SIZE = (390, 844)
 
@@ -404,6 +406,19 @@ class Tall(Drawing):
             self.tap(f"[data-world={world}]")
             self.assert_text("#admitted", "admitted")
             self.assertLessEqual(self.browser.run("return document.documentElement.scrollWidth"), self.SIZE[0])
+
+
+class OneFile(unittest.TestCase):
+    def test_the_page_in_one_file_opens_from_a_folder(self):
+        browser = Browser(1180, 820)
+        self.addCleanup(browser.close)
+        browser.open((PAGE / "bahrufaz-board.html").as_uri())
+        browser.until_text("#t", "38")
+        browser.tap("[data-world=panel]")
+        browser.until_text("#t", "276")
+        browser.tap("#list")
+        browser.until_text("#summary", "21 matches")
+        self.assertEqual(browser.complaints(), [])
 
 
 class Offline(Page):
