@@ -5,7 +5,7 @@ import { arrowHead, arrowPath, clipped, fillOf, shownConditions } from './shapes
 
 const MOVED = 7; // so many pixels are a drag and no tap
 const STEP = 0.025; // how far an arrow key moves a node
-const SIDE = 26, TOP = 26, BOTTOM = 16; // pixels that stay free
+const SIDE = 26, TOP = 16, BOTTOM = 26; // pixels that stay free
 
 export class Canvas {
   /** asks: addAt(place, from), select(what), connect(from, to), move(node, place, tag), remove(what), changed(). */
@@ -185,9 +185,9 @@ export class Canvas {
       'g',
       { class: `node ${mark.tone ?? ''} ${isSelected ? 'selected' : ''} ${isTarget || this.joining === number ? 'target' : ''}`, transform: `translate(${place.x},${place.y})`, tabindex: 0, role: 'button', 'data-node': number, 'data-key': `node ${number}`, 'aria-label': `node ${node.name}, ${label} ${condition}, ${mark.said}` },
       s('rect', { x: -width / 2, y: -height / 2, width, height, rx: 14, fill: fillOf(mark.labelNumber), class: 'box' }),
-      s('text', { y: second ? -9 : 0, class: 'name', 'text-anchor': 'middle', 'dominant-baseline': 'central' }, clipped(node.name, width > 120 ? 15 : 12)),
+      s('text', { y: second ? -9 : 0, class: 'name', 'text-anchor': 'middle', 'dominant-baseline': 'central' }, clipped(node.name, width > 120 ? 14 : 10)),
       second && s('text', { y: 12, class: 'label', 'text-anchor': 'middle', 'dominant-baseline': 'central' }, clipped(second, width > 120 ? 20 : 16)),
-      mark.text && this.plate(mark.text, 'badge', { x: -width / 2 + 18, y: -height / 2 - 2 }),
+      mark.text && this.plate(mark.text, 'badge', { x: width / 2 - 26, y: height / 2 + 3 }),
       this.handle(number, width),
     );
   }

@@ -3,7 +3,7 @@
 const ACROSS = [0, 0.25, 0.5, 0.75, 1]; // where a node may stand in its layer
 const TURNS = 4;
 const FREE = 20; // pixels to be kept between boxes
-const SHORT = 3.2; // an arrow of fewer half boxes has no room for its figure
+const SHORT = 4; // an arrow of fewer half boxes has no room for its figure
 
 /** Whether arrows lead from one node to another. */
 function leads(edges, from, to, seen = new Set()) {
@@ -70,7 +70,13 @@ function settle(places, edges, frame, across) {
       });
       place[across] = ACROSS[costs.indexOf(Math.min(...costs))];
     }
-  return places;
+  return centred(places, across);
+}
+
+/** The same moved to the middle of the board. */
+function centred(places, across) {
+  const all = places.map((place) => place[across]), shift = 0.5 - (Math.min(...all) + Math.max(...all)) / 2;
+  return places.map((place) => ({ ...place, [across]: place[across] + shift }));
 }
 
 /** Nodes in layers that go along one side of the board. */
