@@ -46,7 +46,7 @@ export class Listing {
   /** As the command's list --json has it. */
   json() {
     const { matches, nodeEntries, edgeEntries, bound } = this.listed;
-    const told = { answer: 0, matches, node_entries: nodeEntries, edge_entries: edgeEntries, bound, nodes: this.columns };
+    const told = { answer: 0, admitted: true, matches, node_entries: nodeEntries, edge_entries: edgeEntries, bound, nodes: this.columns };
     const members = Object.entries(told).map(([name, value]) => `  ${JSON.stringify(name)}: ${spaced(value)}`);
     const rows = this.rows.map((row) => `    ${spaced(row)}`).join(',\n');
     members.push(this.rows.length ? `  "rows": [\n${rows}\n  ]` : '  "rows": []');

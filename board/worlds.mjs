@@ -22,9 +22,10 @@ export const WORLDS = [
     patterns: ['examples/weight/old-list.pat', CHECKLIST[0], CHECKLIST[6]],
     story: {
       told:
-        'A farmer typed two and a half as one does in Germany: 2,5. The panel recorded 25 kg, because the weight field ' +
-        'was not on the list of the comma rule. The old list was made by walking the menu. The second pattern asks for ' +
-        'every field with a comma, whatever screen it stands on, and its bound says that nothing is missed.',
+        'A farmer typed two and a half as one does in Germany: 2,5. The panel recorded 25 kg: the weight field was not on ' +
+        'the list of the comma rule. That list was made by walking the menu. Its pattern is answered, and the answer is ' +
+        'complete for what is asked; but it asks for fields behind the menu, and the weighing screen does not open from ' +
+        'there. The bound vouches for the pattern asked and for nothing else. So ask both, and look at the difference.',
       older: 0,
       newer: 1,
       column: 'field',

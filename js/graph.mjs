@@ -1,6 +1,6 @@
 // A graph with its constraints: made in code, or read from a .feed text.
 
-import { meant, takeEdge, takeLabelName, takeLines, takeNodeName } from './lines.mjs';
+import { linesByKind, meant, takeEdge, takeLabelName, takeLines, takeNodeName } from './lines.mjs';
 import { Names } from './names.mjs';
 import {
   MAX_CONSTRAINTS,
@@ -14,7 +14,7 @@ import {
   draftBytes,
   groupsOf,
 } from './records.mjs';
-import { Wrong, grouped, spelled } from './text.mjs';
+import { Wrong, WrongText, grouped, spelled } from './text.mjs';
 
 /** The number, if it may be that. */
 function within(what, number, low, high) {
@@ -136,6 +136,12 @@ function feedNodeLine(line, graph) {
   graph.addNode(name, label, value);
 }
 
+function noNodesLine(line, graph) {
+  line.want('nodes');
+  line.end();
+  if (graph.nodes.length) throw line.error("expected no node line beside 'no nodes'");
+}
+
 function feedConstraintLine(line, graph) {
   const key = [];
   if (!line.skip('->')) {
@@ -153,13 +159,16 @@ function feedConstraintLine(line, graph) {
 const FEED_LINES = {
   label: feedLabelLine,
   node: feedNodeLine,
+  no: noNodesLine,
   edge: (line, graph) => graph.addEdge(...takeEdge(line)),
   constraint: feedConstraintLine,
 };
 
 /** The graph of a .feed text. */
 export function graphOfText(text, file = 'text') {
-  const graph = new Graph();
-  takeLines(text, file, FEED_LINES, 'label, node, edge or constraint', graph);
+  const graph = new Graph(), { lines, last } = linesByKind(text, file, FEED_LINES, 'label, node, edge or constraint');
+  if (!lines.get('node').length && !lines.get('no').length)
+    throw new WrongText(file, last, "expected a node line: a graph without nodes says so, by the line 'no nodes'");
+  takeLines(lines, FEED_LINES, graph);
   return graph;
 }

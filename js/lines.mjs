@@ -3,16 +3,20 @@
 import { inLine } from './names.mjs';
 import { linesOf, numberOf } from './text.mjs';
 
-/** Takes the lines of a text kind by kind, so that their order is free; returns the last line that says something. */
-export function takeLines(text, file, takers, kinds, into) {
+/** The lines of a text by kind, so that their order is free, and the last line that says something. */
+export function linesByKind(text, file, takers, kinds) {
   const lines = new Map(Object.keys(takers).map((kind) => [kind, []]));
   let last = 1;
   for (const line of linesOf(text, file)) {
     lines.get(line.choose([...lines.keys()], kinds)).push(line);
     last = line.line;
   }
+  return { lines, last };
+}
+
+/** Takes lines kind by kind. */
+export function takeLines(lines, takers, into) {
   for (const [kind, found] of lines) for (const line of found) inLine(line, () => takers[kind](line, into));
-  return last;
 }
 
 /** A name; a bare number is a number. */

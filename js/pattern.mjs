@@ -1,6 +1,6 @@
 // A pattern: made in code, or read from a .pat text. docs/FORMATS.md specifies the text.
 
-import { takeEdge, takeLabelName, takeLines, takeNodeName } from './lines.mjs';
+import { linesByKind, takeEdge, takeLabelName, takeLines, takeNodeName } from './lines.mjs';
 import { Naming } from './names.mjs';
 import { MAX_CONDITIONS, MAX_LABEL, MAX_PATTERN_NODES, MAX_VALUE, MIN_VALUE, OPERATORS, byEnds, patternBytes } from './records.mjs';
 import { Wrong, WrongText, aligned, numberOf, spelled } from './text.mjs';
@@ -119,8 +119,8 @@ const PAT_LINES = {
 
 /** The pattern of a .pat text. */
 export function patternOfText(text, file = 'text') {
-  const pattern = new Pattern();
-  const last = takeLines(text, file, PAT_LINES, 'label, node or edge', pattern);
+  const pattern = new Pattern(), { lines, last } = linesByKind(text, file, PAT_LINES, 'label, node or edge');
+  takeLines(lines, PAT_LINES, pattern);
   if (!pattern.nodes.length) throw new WrongText(file, last, 'expected a node line: a pattern has at least one node');
   return pattern;
 }

@@ -135,7 +135,7 @@ function unquoted(text, file, number) {
 /** The text of a file: UTF-8, with or without a byte order mark, any line ends. */
 export function textOfBytes(bytes, file) {
   try {
-    return new TextDecoder('utf-8', { fatal: true }).decode(bytes).replaceAll('\r\n', '\n');
+    return new TextDecoder('utf-8', { fatal: true }).decode(bytes).replace(/\r\n?/g, '\n');
   } catch {
     throw new WrongText(file, firstBadLine(bytes), 'expected UTF-8 text, found other bytes');
   }
