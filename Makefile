@@ -117,3 +117,5 @@ fuzz: near
 bench: near
 	$(NEARLY) cargo run --release --offline --quiet --manifest-path bench/Cargo.toml
 endif
+
+include board/board.mk

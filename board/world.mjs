@@ -1,0 +1,63 @@
+// The open world, as the page shows it.
+
+import { Names } from '../js/bahrufaz.mjs';
+import { find, h, replace } from './dom.mjs';
+import { constraintsAlone } from './figures.mjs';
+import { counted } from './words.mjs';
+
+/** A world that was admitted, with its names. */
+export class World {
+  constructor(title, { store, counts, constraints, names, labelCounts }) {
+    Object.assign(this, { title, store, counts, constraints });
+    this.names = new Names();
+    for (const kind of ['labels', 'nodes']) for (const [number, name] of names[kind]) this.names[kind].add(number, name);
+    this.constraintsAlone = constraintsAlone(constraints);
+    const bearing = new Map(labelCounts);
+    const numbers = [...new Set([...bearing.keys(), ...names.labels.map(([number]) => number)])].sort((a, b) => a - b);
+    this.labels = numbers.map((number) => ({ number, name: this.names.labels.name(number), count: bearing.get(number) ?? 0 }));
+  }
+
+  /** The number of a label by its name, or undefined. */
+  numberOf(label) {
+    if (typeof label !== 'string') return label;
+    return this.names.labels.has(label) ? this.names.labels.number(label) : undefined;
+  }
+}
+
+export function showWorld(world) {
+  const { nodes, edges, constraints } = world.counts;
+  const told = [counted(nodes, 'node', 'nodes'), counted(edges, 'edge', 'edges'), counted(constraints, 'constraint', 'constraints')].join(', ');
+  replace(
+    find('world'),
+    h('div', { class: 'row' },
+      h('strong', {}, world.title),
+      h('span', { id: 'admitted' }, h('span', { class: 'admitted' }, 'admitted'), h('span', { class: 'soft' }, ': building it afresh gives the same bytes')),
+      h('details', {},
+        h('summary', {}, `${told}`),
+        h('ul', {}, world.constraints.map((one) => h('li', {}, world.names.constraint(one)))))),
+  );
+}
+
+/** Says that nothing was opened, and why; the world before it stays open. */
+export function showRefusedWorld(title, { answer, sentence, advice, detail = [] }) {
+  find('world').prepend(warning(h('p', {}, h('strong', {}, `${title} is refused with ${answer}: `), sentence), ...detail.map((line) => h('p', {}, line)), h('p', {}, `${advice[0].toUpperCase()}${advice.slice(1)}.`)));
+}
+
+export function showWrong(title, reason) {
+  find('world').prepend(warning(h('p', {}, h('strong', {}, `${title} cannot be opened: `), reason)));
+}
+
+function warning(...lines) {
+  find('world').querySelectorAll('.refusal').forEach((old) => old.remove());
+  return h('div', { class: 'refusal', role: 'alert' }, ...lines);
+}
+
+export function showProgress(title, { step, done, of }, stop) {
+  const world = find('world'), bar = world.querySelector('progress');
+  if (bar) {
+    bar.value = done + 0.5;
+    find('step').textContent = step;
+    return;
+  }
+  replace(world, h('div', { class: 'row' }, h('strong', {}, title), h('progress', { max: of, value: done + 0.5, 'aria-label': 'Progress' }), h('span', { id: 'step', class: 'soft' }, step), h('button', { class: 'quiet', onclick: stop }, 'Stop')));
+}

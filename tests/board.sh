@@ -1,0 +1,25 @@
+#!/bin/sh
+# board.sh: the drawing board in Debian's chromium, driven by python3-selenium; installed where apt-get and root are
+# there. Where they cannot be had, this says so.
+set -eu
+cd "$(dirname "$0")/.."
+
+# a python that has selenium
+with_selenium() {
+    for python in python3 /usr/bin/python3; do
+        "$python" -c 'import selenium' 2>/dev/null && echo "$python" && return
+    done
+    return 1
+}
+
+is_ready() { command -v chromium >/dev/null && command -v chromedriver >/dev/null && with_selenium >/dev/null; }
+
+if ! is_ready; then
+    { apt-get update && DEBIAN_FRONTEND=noninteractive apt-get install -y --no-install-recommends \
+        chromium chromium-driver python3-selenium; } >/dev/null 2>&1 || true
+fi
+if ! is_ready; then
+    echo "board-test: NOT RUN, there is no chromium with its driver and python3-selenium here"
+    exit 0
+fi
+exec "$(with_selenium)" -m unittest discover --quiet --start-directory tests/board --top-level-directory tests/board
