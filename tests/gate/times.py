@@ -25,6 +25,8 @@ WORDS = {
     "library": "the archive and the libraries, of what was proved",
     "boundary": "the library's calls against the second reading",
     "desk": "what stands before the library: command, Rust, C, installing",
+    "wasm-test": "the library as WebAssembly: in node, and against the second reading",
+    "board-test": "the drawing board in a browser",
     "gate": "the whole",
 }
 
