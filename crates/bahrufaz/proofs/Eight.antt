@@ -13,7 +13,7 @@ unfolding inEight
 gives number named results room work told given = ap (λ rs. left number rs room work) given ∙ ap inEight told
 
 -- the same for listing, whose first result stands in two words
-pub gives-wide : {o : Outcome} (number m n e t low high : ℕ) (results room work : List ℕ) → left number (m ∷ n ∷ e ∷ t ∷ []) room work ≡ o → low ≡ m % 4294967296 → high ≡ m / 4294967296 → results ≡ low ∷ n ∷ e ∷ t ∷ high ∷ 0 ∷ 0 ∷ 0 ∷ [] → left number results room work ≡ inEightWide o
+pub gives-wide : {o : Outcome} (number m n e t low high : ℕ) (results room work : List ℕ) → left number (m ∷ n ∷ e ∷ t ∷ []) room work ≡ o → low ≡ m % 4294967296 → high ≡ m / 4294967296 → results ≡ low ∷ n ∷ e ∷ t ∷ 0 ∷ 0 ∷ 0 ∷ high ∷ [] → left number results room work ≡ inEightWide o
 unfolding inEightWide wide
 gives-wide number m n e t low high results room work told lower upper given =
     rw (given, lower, upper, ← told)

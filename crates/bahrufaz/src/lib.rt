@@ -5,11 +5,11 @@ ghost use Prim.Native.Nat.{_/_, _%_};
 ghost use Rattle.rules.specs.Answers.{admitNumber, buildOutcome, planOutcome, listOutcome};
 ghost use Rattle.bahrufaz.specs.Boundary.{inEight, inEightWide, left};
 
-// Gives the results: five words, then zeros.
-fn give(results: &mut [u32; 8], first: u32, second: u32, third: u32, fourth: u32, fifth: u32)
-    ensures { λ _. ⌜ now (results .exit) ≡ first ∷ second ∷ third ∷ fourth ∷ fifth ∷ 0 ∷ 0 ∷ 0 ∷ [] ⌝ }
+// Gives the results: four words, zeros, and the last word.
+fn give(results: &mut [u32; 8], first: u32, second: u32, third: u32, fourth: u32, last: u32)
+    ensures { λ _. ⌜ now (results .exit) ≡ first ∷ second ∷ third ∷ fourth ∷ 0 ∷ 0 ∷ 0 ∷ last ∷ [] ⌝ }
 {
-    *results = [first, second, third, fourth, fifth, 0, 0, 0];
+    *results = [first, second, third, fourth, 0, 0, 0, last];
 }
 
 // The lower 32 bits of a count.
@@ -59,7 +59,7 @@ pub extern "C" fn bahrufaz_plan(
     planned.number
 }
 
-// Listing. Results: matches, node entries, edge entries, T, and the upper 32 bits of matches.
+// Listing. Results: matches, node entries, edge entries, T; the last has the upper 32 bits of matches.
 #[no_mangle]
 pub extern "C" fn bahrufaz_list(
     store: &[u8],

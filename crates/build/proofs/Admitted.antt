@@ -1,22 +1,23 @@
 -- Admitting: the store that would be built, compared with the store that is there. Assumes nothing.
 use native.Mathlib.Omega.{arith}
-use native.Mathlib.Decide.{ℕ-discrete}
 use mathlib.Core.Path.{_≡_, refl, sym, ap, _∙_}
-use mathlib.Core.Bool.{Bool, true, false, not, _&&_, false≢true}
-use mathlib.Core.List.{List, [], _∷_, _++_, map, append-assoc}
+use mathlib.Core.Bool.{Bool, true, false, not, _&&_}
+use mathlib.Core.List.{List, _++_, map, append-assoc}
 use Prim.Native.Nat.{ℕ, _+_, _-_, _*_, _/_, _%_, _≤_, _<_}
-use lib.Dec.{eqb}
 use lib.ListN.{length, take, drop, getD, length-drop, take-append-drop}
 use lib.Seq.{getD-take, take-all, length-take-le}
-use borrow.Author.Tests.{not-true, not-false, eq-eqb, ne-eqb, eqb-true}
+use borrow.Author.Tests.{not-true, not-false}
 use Rattle.rules.specs.Words.{part, encoded, u32At, over}
 use Rattle.rules.specs.Lists.{all}
 use Rattle.rules.specs.Store.{nodeCount, edgeCount, constraintCount, groupCount, entryCount, groupsAt, header, headerRight, nodePart, edgePart, constraintPart, constraintsIn}
 use Rattle.rules.specs.Graph.{storeGraph}
 use Rattle.rules.specs.Index.{groupBytes, entryBytes, storeIndex, entryTotal, storeOf}
-use Rattle.rules.specs.Answers.{same, graphNumber, admitNumber}
-use Rattle.laws.specs.Cases.{first-holds, second-holds}
+use Rattle.rules.specs.Answers.{same, admitNumber, _when_}
+use Rattle.laws.specs.Refusals.{graphNumber, admit-one, admit-many, admit-other, admit-same}
 use Rattle.laws.specs.Header.{header-ends, header-long}
+use Rattle.laws.specs.Same.{same-equal, same-self, same-turned, same-append}
+use Rattle.laws.specs.Sections as sections
+use Rattle.laws.specs.Sections.{header-length, store-form}
 use Rattle.build_edges.specs.Packed.{forwardWords}
 use Rattle.build_edges.specs.Sound.{joinedSet}
 use Rattle.build_groups.specs.Emit.{outputOf, Placed}
@@ -24,43 +25,12 @@ use Rattle.build_keys.specs.Pass.{Right, passed}
 use Rattle.build_groups.specs.declared.Purpose.{Purpose}
 use Rattle.build_groups.specs.declared.Progress.{Progress}
 use Rattle.build.specs.Steps.{indexSame}
-use Rattle.build_groups.proofs.Records.{over-all}
-use Rattle.build_groups.proofs.Comparing.{same-append}
+use Rattle.laws.specs.Over.{over-all}
 use Rattle.build_keys.proofs.Items.{short, total, groupFor}
-use Rattle.build_keys.proofs.Whole.{compare-all, part-add, length-part}
+use Rattle.build_keys.proofs.Whole.{compare-all, length-part}
+use Rattle.laws.specs.Parts.{part-add}
 use Rattle.build_keys.proofs.Index.{itemsOf, passed-items, index-items, index-length, index-total}
 use Rattle.build.proofs.Written.{all-short, told, index-lengths}
-use Rattle.build.proofs.Numbers.{none-few}
-
--- ---- same bytes
-pub same-true : (a b : List ℕ) → same a b ≡ true → a ≡ b
-unfolding same
-same-true [] [] h = refl
-same-true [] (y ∷ b) h = absurd (false≢true h)
-same-true (x ∷ a) [] h = absurd (false≢true h)
-same-true (x ∷ a) (y ∷ b) h =
-    let e : x ≡ y = eqb-true x y (first-holds (eqb x y) (same a b) h) in
-    let t : a ≡ b = same-true a b (second-holds (eqb x y) (same a b) h) in
-    rw (e, t)
-
-same-self : (a : List ℕ) → same a a ≡ true
-unfolding same
-same-self [] = refl
-same-self (x ∷ a) = rw (eq-eqb x x refl) (same-self a)
-
-turned : (x y : ℕ) → eqb x y ≡ eqb y x
-turned x y = go (ℕ-discrete x y)
-  where
-    go : Dec (x ≡ y) → eqb x y ≡ eqb y x
-    go (yes e) = eq-eqb x y e ∙ sym (eq-eqb y x (sym e))
-    go (no f) = ne-eqb x y f ∙ sym (ne-eqb y x (λ e. f (sym e)))
-
-same-turned : (a b : List ℕ) → same a b ≡ same b a
-unfolding same
-same-turned [] [] = refl
-same-turned [] (y ∷ b) = refl
-same-turned (x ∷ a) [] = refl
-same-turned (x ∷ a) (y ∷ b) = ap (λ t. t && same a b) (turned x y) ∙ ap (λ t. eqb y x && t) (same-turned a b)
 
 -- ---- the index
 abbrev pub compareTask : ℕ → ℕ → ℕ → Purpose
@@ -134,17 +104,13 @@ at23 n m k g e = refl
 
 module _ (s : List ℕ) (n m k g e : ℕ) (alike : same (header n m k g e) (take 48 s) ≡ true) where
   read : (i : ℕ) → i < 48 → getD s i 0 ≡ getD (header n m k g e) i 0
-  read i h = sym (getD-take 48 s i 0 h) ∙ ap (λ l. getD l i 0) (sym (same-true (header n m k g e) (take 48 s) alike))
+  read i h = sym (getD-take 48 s i 0 h) ∙ ap (λ l. getD l i 0) (sym (same-equal (header n m k g e) (take 48 s) alike))
 
   pub header-groups : g ≤ 262144 → g ≡ groupCount s
   header-groups h = word-at s 16 g (omega arith) (at16 n m k g e ∙ sym (read 16 (omega arith))) (at17 n m k g e ∙ sym (read 17 (omega arith))) (at18 n m k g e ∙ sym (read 18 (omega arith))) (at19 n m k g e ∙ sym (read 19 (omega arith)))
 
   pub header-entries : e ≤ 1048576 → e ≡ entryCount s
   header-entries h = word-at s 20 e (omega arith) (at20 n m k g e ∙ sym (read 20 (omega arith))) (at21 n m k g e ∙ sym (read 21 (omega arith))) (at22 n m k g e ∙ sym (read 22 (omega arith))) (at23 n m k g e ∙ sym (read 23 (omega arith)))
-
-pub length-header : (n m k g e : ℕ) → length (header n m k g e) ≡ 48
-unfolding header encoded
-length-header n m k g e = refl
 
 -- a store by its parts
 split-store : (s : List ℕ) (at g e : ℕ) → at + g * 24 + e * 8 ≡ length s → 48 ≤ at
@@ -170,11 +136,11 @@ module _ {s : List ℕ} (right : Right s) (g e : ℕ) (eg : g ≡ length (storeI
 
   store-is : storeOf s ≡ hd ++ part s 48 (groupsAt s) ++ gb ++ eb
   unfolding storeOf hd gb eb
-  store-is = rw (← eg, ← ee)
+  store-is = store-form s (storeIndex s) (right .header) ∙ rw (← eg, ← ee)
 
   long-header : length hd ≡ length (take 48 s)
   unfolding hd
-  long-header = let long = header-long s (right .header) in length-header (nodeCount s) (edgeCount s) (constraintCount s) g e ∙ sym (length-take-le 48 s long)
+  long-header = let long = header-long s (right .header) in header-length (nodeCount s) (edgeCount s) (constraintCount s) g e ∙ sym (length-take-le 48 s long)
 
   store-right : storeOf s ≡ hd ++ (part s 48 (groupsAt s) ++ (gb ++ eb))
   store-right = store-is ∙ append-assoc (hd ++ part s 48 (groupsAt s)) gb eb ∙ append-assoc hd (part s 48 (groupsAt s)) (gb ++ eb)
@@ -203,43 +169,30 @@ module _ {s : List ℕ} (right : Right s) (g e : ℕ) (eg : g ≡ length (storeI
       ∙ same-append gb eb p₁ p₂ lg ∙ ap (λ b. b && same eb p₂) (same-turned gb p₁) ∙ ap (λ b. same p₁ gb && b) (same-turned eb p₂)
 
 -- ---- the number
-admitBy : Bool → Bool → Bool → Bool → ℕ → ℕ
-admitBy a b c d n = elim a [ true ↦ elim b [ true ↦ elim c [ true ↦ 0 | false ↦ 5 ] | false ↦ elim d [ true ↦ 5 | false ↦ n ] ] | false ↦ 1 ]
-
 module _ (s : List ℕ) where
-  shape : admitNumber s ≡ admitBy (headerRight s) (eqb (graphNumber s) 0) (same (storeOf s) s) (eqb (graphNumber s) 11) (graphNumber s)
-  unfolding admitNumber admitBy
-  shape = refl
-
-  when : (a b c d : Bool) (n : ℕ) → headerRight s ≡ a → eqb (graphNumber s) 0 ≡ b → same (storeOf s) s ≡ c → eqb (graphNumber s) 11 ≡ d → graphNumber s ≡ n → admitNumber s ≡ admitBy a b c d n
-  when a b c d n p q r t u = shape ∙ cc
-
   pub admits-not : (h : Bool) → h ≡ headerRight s → not h ≡ true → 1 ≡ admitNumber s
-  unfolding admitBy
-  admits-not h eh x = sym (when false _ _ _ _ (sym eh ∙ not-true h x) refl refl refl refl)
+  admits-not h eh x = sym (admit-one s (sym eh ∙ not-true h x))
 
   module _ (head : headerRight s ≡ true) (n : ℕ) (en : n ≡ graphNumber s) where
     pub admits-many : n ≡ 11 → 5 ≡ admitNumber s
-    unfolding admitBy
-    admits-many z = sym (when true false _ true _ head (ne-eqb (graphNumber s) 0 (λ q. omega arith)) refl (eq-eqb (graphNumber s) 11 (sym en ∙ z)) refl)
+    admits-many z = sym (admit-many s head (sym en ∙ z))
 
     pub admits-graph : (n ≡ 11 → ⊥) → (n ≡ 0 → ⊥) → n ≡ admitNumber s
-    unfolding admitBy
-    admits-graph f z = sym (when true false _ false n head (ne-eqb (graphNumber s) 0 (λ q. z (en ∙ q))) refl (ne-eqb (graphNumber s) 11 (λ q. f (en ∙ q))) (sym en))
+    admits-graph f z = en ∙ sym (admit-other s head (λ q. z (en ∙ q)) (λ q. f (en ∙ q)))
 
   module _ (right : Right s) (n : ℕ) (en : n ≡ graphNumber s) (z : n ≡ 0) (g e : ℕ) (counts : n ≡ 0 → (g ≡ length (storeIndex s)) × (e ≡ entryTotal (storeIndex s))) where
     pub few-groups : g ≤ 262144
-    few-groups = let f = none-few s right (sym en ∙ z) in let c = counts z in omega (arith, f .0, c .0)
+    few-groups = let c = counts z in omega (arith, sections.few-groups s (sym en ∙ z), c .0)
 
     pub few-entries : e ≤ 1048576
-    few-entries = let f = none-few s right (sym en ∙ z) in let c = counts z in omega (arith, f .1, c .1)
+    few-entries = let c = counts z in omega (arith, sections.few-entries s (sym en ∙ z), c .1)
 
-    settled : (b : Bool) → same (storeOf s) s ≡ b → admitNumber s ≡ admitBy true true b false 0
-    settled b q = when true true b false 0 (right .header) (eq-eqb (graphNumber s) 0 (sym en ∙ z)) q (ne-eqb (graphNumber s) 11 (λ r. omega arith)) (sym en ∙ z)
+    settled : (b : Bool) → same (storeOf s) s ≡ b → admitNumber s ≡ 5 when not b
+    settled b q = admit-same s (right .header) (sym en ∙ z) ∙ ap (λ x. 5 when not x) q
 
     module _ (r : Bool) (er : r ≡ same (header (nodeCount s) (edgeCount s) (constraintCount s) g e) (take 48 s)) where
       pub admits-header : not r ≡ true → 5 ≡ admitNumber s
-      unfolding admitBy
+      unfolding _when_
       admits-header x = sym (settled false (header-differs right g e (counts z .0) (counts z .1) (sym er ∙ not-true r x)))
 
       module _ (hr : not r ≡ false) where
@@ -255,11 +208,11 @@ module _ (s : List ℕ) where
 
         module _ (i : Bool) (ei : i ≡ indexSame s g e) where
           pub admits-index : not i ≡ true → 5 ≡ admitNumber s
-          unfolding admitBy
+          unfolding _when_
           admits-index x = sym (settled false (header-agrees right g e (counts z .0) (counts z .1) alike ends ∙ sym ei ∙ not-true i x))
 
           pub admits : not i ≡ false → 0 ≡ admitNumber s
-          unfolding admitBy
+          unfolding _when_
           admits x = sym (settled true (header-agrees right g e (counts z .0) (counts z .1) alike ends ∙ sym ei ∙ not-false i x))
 
 pub compared-left : (own own₀ w b : List ℕ) (r : Bool) → r ≡ same own b → own ≡ over own₀ 0 w → length own₀ ≤ length w → r ≡ same w b

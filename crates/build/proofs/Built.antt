@@ -1,31 +1,23 @@
 -- The bytes of the store that is built, and the outcome of building. Assumes nothing.
 use native.Mathlib.Omega.{arith}
-use native.Mathlib.Numerals.{add-one}
 use mathlib.Core.Path.{_≡_, refl, sym, ap, _∙_}
-use mathlib.Core.Bool.{Bool, true, false, not, false≢true}
+use mathlib.Core.Bool.{Bool, true, not}
 use mathlib.Core.List.{List, [], _∷_, _++_}
 use Prim.Native.Nat.{ℕ, _+_, _-_, _*_, _≤_, _<_}
-use lib.Dec.{eqb, leb}
-use lib.ListN.{length, take, drop, set, getD, length-append, length-take, length-drop}
-use lib.Seq.{paste, paste-suc, take-all}
-use borrow.Author.Tests.{not-true, eq-eqb, ne-eqb, le-leb, lt-leb}
+use lib.ListN.{length, take, drop, length-append, length-take, length-drop}
+use borrow.Author.Tests.{ne-eqb, le-ltb, lt-ltb}
+use lib.Dec.{ltb}
 use Rattle.rules.specs.Words.{encoded, over}
 use Rattle.rules.specs.Store.{nodeCount, edgeCount, constraintCount, groupsAt, header, draftRight}
 use Rattle.rules.specs.Index.{groupBytes, entryBytes, storeIndex, entryTotal, storeOf}
-use Rattle.rules.specs.Answers.{Outcome, answered, refused, outcome, graphNumber, buildNumber, buildOutcome}
+use Rattle.rules.specs.Answers.{outcome, buildNumber, buildOutcome, _when_, firstOf}
+use Rattle.laws.specs.Outcomes.{answered, refused, outcome-answered, outcome-refused}
+use Rattle.laws.specs.Refusals.{graphNumber, first-given, first-passed, refuses, passes, build-number}
 use Rattle.laws.specs.Over.{over-over}
 use Rattle.laws.specs.Header.{header-ends, header-long, draft-header, draft-bare}
+use Rattle.laws.specs.Sections.{header-length, store-form}
 use Rattle.build_groups.specs.Emit.{groupRecord}
 use Rattle.build.specs.Outcome.{gave}
-
--- ---- bytes one after another
-pub byte-next : (room room₀ bytes : List ℕ) (at i : ℕ) → room ≡ paste room₀ at bytes i → at + i < length room₀ → i < length bytes
-    → set room (at + i) (getD bytes i 0) ≡ paste room₀ at bytes (i + 1)
-byte-next room room₀ bytes at i e h k = rw (e, add-one) (paste-suc room₀ at bytes i 0 h k)
-
-pub bytes-done : (room room₀ bytes : List ℕ) (at i : ℕ) → room ≡ paste room₀ at bytes i → i ≡ length bytes → room ≡ over room₀ at bytes
-unfolding over
-bytes-done room room₀ bytes at i e q = rw (q, take-all (length bytes) bytes (omega arith)) at e
 
 -- ---- the header
 pub header-written : (s₀ s₁ s₂ : List ℕ) (n m k g e n′ m′ k′ : ℕ) → n ≡ n′ → m ≡ m′ → k ≡ k′ → 48 ≤ length s₀ → s₁ ≡ over s₀ 0 (groupRecord 1 (n ∷ m ∷ k ∷ []) g e)
@@ -37,28 +29,12 @@ header-written s₀ s₁ s₂ n m k g e n′ m′ k′ en em ek fits p q =
     (q ∙ ap (λ s. over s 24 (encoded (48 ∷ (48 + n * 8) ∷ (48 + n * 8 + m * 8) ∷ (48 + n * 8 + m * 8 + k * 12) ∷ (48 + n * 8 + m * 8 + k * 12 + g * 24) ∷ (48 + n * 8 + m * 8 + k * 12 + g * 24 + e * 8) ∷ []))) p
     ∙ over-over s₀ 0 (encoded (1 ∷ n ∷ m ∷ k ∷ g ∷ e ∷ [])) (omega arith) (encoded (48 ∷ (48 + n * 8) ∷ (48 + n * 8 + m * 8) ∷ (48 + n * 8 + m * 8 + k * 12) ∷ (48 + n * 8 + m * 8 + k * 12 + g * 24) ∷ (48 + n * 8 + m * 8 + k * 12 + g * 24 + e * 8) ∷ [])))
 
-length-header : (n m k g e : ℕ) → length (header n m k g e) ≡ 48
-unfolding header encoded
-length-header n m k g e = refl
-
 -- ---- the outcome
-pick-no : (b : Bool) (x y : Outcome) → b ≡ false → elim b [ true ↦ x | false ↦ y ] ≡ y
-pick-no true x y h = absurd (false≢true (sym h))
-pick-no false x y h = refl
-
-outcome-refused : (n : ℕ) (results written room work : List ℕ) → (n ≡ 0 → ⊥) → outcome n results written room work ≡ refused n results room work
-unfolding outcome
-outcome-refused n results written room work z = pick-no (eqb n 0) (answered results written room work) (refused n results room work) (ne-eqb n 0 z)
-
-outcome-answered : (results written room work : List ℕ) → outcome 0 results written room work ≡ answered results written room work
-unfolding outcome
-outcome-answered results written room work = refl
-
 module _ (draft room : List ℕ) where
   refused-so : (n : ℕ) → buildNumber draft room ≡ n → (n ≡ 0 → ⊥) → gave n 0 room ≡ buildOutcome draft room
   unfolding buildOutcome refused
   refused-so n e z =
-      sym (ap (λ k. outcome k (length (storeOf draft) ∷ []) (storeOf draft) room []) e ∙ outcome-refused n (length (storeOf draft) ∷ []) (storeOf draft) room [] z)
+      sym (ap (λ k. outcome k (length (storeOf draft) ∷ []) (storeOf draft) room []) e ∙ outcome-refused n (length (storeOf draft) ∷ []) (storeOf draft) room [] (ne-eqb n 0 z))
 
   answered-so : (total : ℕ) (room′ : List ℕ) → buildNumber draft room ≡ 0 → room′ ≡ over room 0 (storeOf draft) → length (storeOf draft) ≡ total → gave 0 total room′ ≡ buildOutcome draft room
   unfolding buildOutcome answered
@@ -66,35 +42,33 @@ module _ (draft room : List ℕ) where
       ap (gave 0 total) q ∙ ap (λ n. gave 0 n (over room 0 (storeOf draft))) (sym r)
       ∙ sym (ap (λ k. outcome k (length (storeOf draft) ∷ []) (storeOf draft) room []) p ∙ outcome-answered (length (storeOf draft) ∷ []) (storeOf draft) room [])
 
-  numberBy : Bool → Bool → Bool → ℕ → ℕ
-  numberBy a b c n = elim a [ true ↦ elim b [ true ↦ elim c [ true ↦ 0 | false ↦ 10 ] | false ↦ n ] | false ↦ 1 ]
-
-  shape : buildNumber draft room ≡ numberBy (draftRight draft) (eqb (graphNumber draft) 0) (leb (length (storeOf draft)) (length room)) (graphNumber draft)
-  unfolding buildNumber numberBy
-  shape = refl
-
-  when : (a b c : Bool) (n : ℕ) → draftRight draft ≡ a → eqb (graphNumber draft) 0 ≡ b → leb (length (storeOf draft)) (length room) ≡ c → graphNumber draft ≡ n → buildNumber draft room ≡ numberBy a b c n
-  when a b c n p q r t = shape ∙ cc
+  abbrev ten : ℕ
+  ten = 10 when ltb (length room) (length (storeOf draft))
 
   pub gives-one : (d : Bool) → d ≡ draftRight draft → not d ≡ true → gave 1 0 room ≡ buildOutcome draft room
-  unfolding numberBy
-  gives-one d ed h = refused-so 1 (when false _ _ _ (sym ed ∙ not-true d h) refl refl refl) (λ z. omega arith)
+  gives-one d ed h = refused-so 1 (build-number draft room ∙ refuses 1 _ (graphNumber draft ∷ ten ∷ []) refl (sym (ap not ed) ∙ h)) (λ z. omega arith)
 
   module _ (right : draftRight draft ≡ true) (n : ℕ) (en : n ≡ graphNumber draft) where
+    past-one : buildNumber draft room ≡ firstOf (graphNumber draft ∷ ten ∷ [])
+    past-one = build-number draft room ∙ passes 1 _ (graphNumber draft ∷ ten ∷ []) (ap not right)
+
     pub gives-graph : (n ≡ 0 → ⊥) → gave n 0 room ≡ buildOutcome draft room
-    unfolding numberBy
-    gives-graph z = refused-so n (when true false _ n right (ne-eqb (graphNumber draft) 0 (λ e. z (en ∙ e))) refl (sym en)) z
+    gives-graph z = refused-so n (past-one ∙ first-given (graphNumber draft) (ten ∷ []) (λ e. z (en ∙ e)) ∙ sym en) z
 
     module _ (z : n ≡ 0) (total : ℕ) (et : length (storeOf draft) ≡ total) where
+      past-graph : buildNumber draft room ≡ firstOf (ten ∷ [])
+      past-graph = past-one ∙ first-passed (graphNumber draft) (ten ∷ []) (sym en ∙ z)
+
       pub gives-ten : length room < total → gave 10 0 room ≡ buildOutcome draft room
-      unfolding numberBy
       gives-ten h =
-          refused-so 10 (when true true false 0 right (eq-eqb (graphNumber draft) 0 (sym en ∙ z)) (lt-leb (length (storeOf draft)) (length room) (omega arith)) (sym en ∙ z)) (λ z. omega arith)
+          let l : length room < length (storeOf draft) = omega arith in
+          refused-so 10 (past-graph ∙ refuses 10 _ [] refl (lt-ltb (length room) (length (storeOf draft)) l)) (λ z. omega arith)
 
       pub gives-store : {room′ : List ℕ} → total ≤ length room → room′ ≡ over room 0 (storeOf draft) → gave 0 total room′ ≡ buildOutcome draft room
-      unfolding numberBy
+      unfolding firstOf
       gives-store {room′} h e =
-          answered-so total room′ (when true true true 0 right (eq-eqb (graphNumber draft) 0 (sym en ∙ z)) (le-leb (length (storeOf draft)) (length room) (omega arith)) (sym en ∙ z)) e et
+          let l : length (storeOf draft) ≤ length room = omega arith in
+          answered-so total room′ (past-graph ∙ passes 10 _ [] (le-ltb (length room) (length (storeOf draft)) l)) e et
 
 -- ---- the bytes of the store
 module _ (draft : List ℕ) (g e : ℕ) (right : draftRight draft ≡ true) (eg : g ≡ length (storeIndex draft)) (ee : e ≡ entryTotal (storeIndex draft))
@@ -117,7 +91,7 @@ module _ (draft : List ℕ) (g e : ℕ) (right : draftRight draft ≡ true) (eg 
 
   store-is : storeOf draft ≡ hd ++ sections ++ groupBytes 0 (storeIndex draft) ++ entryBytes (storeIndex draft)
   unfolding storeOf hd sections
-  store-is = rw (draft-ends, ← eg, ← ee)
+  store-is = store-form draft (storeIndex draft) (draft-header draft right) ∙ rw (draft-ends, ← eg, ← ee)
 
   pub store-length : length (storeOf draft) ≡ length draft + g * 24 + e * 8
   unfolding hd
@@ -126,7 +100,7 @@ module _ (draft : List ℕ) (g e : ℕ) (right : draftRight draft ≡ true) (eg 
       let a = length-append (hd ++ sections ++ groupBytes 0 (storeIndex draft)) (entryBytes (storeIndex draft)) in
       let b = length-append (hd ++ sections) (groupBytes 0 (storeIndex draft)) in
       let c = length-append hd sections in
-      let h : length hd ≡ 48 = length-header (nodeCount draft) (edgeCount draft) (constraintCount draft) g e in
+      let h : length hd ≡ 48 = header-length (nodeCount draft) (edgeCount draft) (constraintCount draft) g e in
       ap length store-is ∙ omega (arith, length-sections)
 
   -- header, sections, groups and entries, written one after another
@@ -138,7 +112,7 @@ module _ (draft : List ℕ) (g e : ℕ) (right : draftRight draft ≡ true) (eg 
       let long = header-long draft (draft-header draft right) in
       let gb = groupBytes 0 (storeIndex draft) in
       let eb = entryBytes (storeIndex draft) in
-      let h : length hd ≡ 48 = length-header (nodeCount draft) (edgeCount draft) (constraintCount draft) g e in
+      let h : length hd ≡ 48 = header-length (nodeCount draft) (edgeCount draft) (constraintCount draft) g e in
       let two : length (hd ++ sections) ≡ length draft = length-append hd sections ∙ omega (arith, length-sections) in
       let three : length (hd ++ sections ++ gb) ≡ length draft + g * 24 = length-append (hd ++ sections) gb ∙ omega arith in
       let q₂ : r₂ ≡ over r₀ 0 (hd ++ sections) = q ∙ ap (λ s. over s 48 sections) p ∙ rw h at (over-over r₀ 0 hd (omega arith) sections) in

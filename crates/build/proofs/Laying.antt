@@ -8,18 +8,20 @@ use Prim.Native.Nat.{ℕ, zero, suc, _+_, _%_, _≤_, _<_}
 use lib.Dec.{ltb}
 use lib.ListN.{length, take, replicate, length-take, length-replicate}
 use borrow.Author.Tests.{ne-eqb, lt-ltb, ltb-true}
-use Rattle.rules.specs.Lists.{range, has, setOf, Strict}
-use Rattle.rules.specs.Store.{nodePart, edgePart, nodesIn, edgesIn}
-use Rattle.rules.specs.Index.{exceeds, tooMany, storeIndex, entryTotal}
-use Rattle.rules.specs.Answers.{graphNumber}
+use Rattle.rules.specs.Lists.{range, has, setOf}
+use Rattle.laws.specs.Strict.{Strict}
+use Rattle.rules.specs.Store.{mostEntries, mostGroups, mostNodes, nodePart, edgePart, nodesIn, edgesIn}
+use Rattle.rules.specs.Index.{tooLarge, exceeds, tooMany, storeIndex, entryTotal}
+use Rattle.laws.specs.Refusals.{graphNumber}
 use Rattle.laws.specs.Sets.{has-set, set-strict}
-use Rattle.laws.specs.Members.{has-append}
+use Rattle.laws.specs.Has.{has-append}
+use Rattle.laws.specs.Parts.{nodes-in}
 use Rattle.build_edges.specs.Packed.{forwardAt, backwardAt, forwardWords}
 use Rattle.build_edges.specs.Starts.{Climbs}
 use Rattle.build_edges.specs.Sound.{joinedSet}
 use Rattle.build_neighbours.specs.Side.{Arranged}
 use Rattle.build_keys.specs.Pass.{Right, AtHand, Laid}
-use Rattle.build_keys.proofs.Index.{node-number, both-ends, right-sound}
+use Rattle.build_keys.proofs.Index.{both-ends, right-sound}
 use Rattle.build.proofs.Numbers.{gives-four, gives-eleven}
 
 -- ---- low halves
@@ -41,7 +43,7 @@ module _ {s : List ℕ} (right : Right s) where
   unfolding forwardAt
   forward-low i h =
       let e = both-ends s (right .header) (right .records) i h .1 in
-      let n = node-number s (right .header) in
+      let n = nodes-in s (right .header) in
       let few = right-sound right .nodes in
       omega arith
 
@@ -49,7 +51,7 @@ module _ {s : List ℕ} (right : Right s) where
   unfolding backwardAt
   backward-low i h =
       let e = both-ends s (right .header) (right .records) i h .0 in
-      let n = node-number s (right .header) in
+      let n = nodes-in s (right .header) in
       let few = right-sound right .nodes in
       omega arith
 
@@ -69,7 +71,7 @@ unfolding joinedSet
 joined-strict edges = set-strict (forwardWords edges ++ map (backwardAt edges) (range 0 (edgesIn edges)))
 
 module _ {s joined nodes : List ℕ} (h : AtHand s joined) (en : nodes ≡ nodePart s) where
-  pub lay-needs : ((nodesIn nodes ≤ 65535) × (length joined ≤ 524288)) × (Strict joined × ((w : ℕ) → has w joined ≡ true → w % 65536 < nodesIn nodes))
+  pub lay-needs : ((nodesIn nodes ≤ mostNodes) × (length joined ≤ 524288)) × (Strict joined × ((w : ℕ) → has w joined ≡ true → w % 65536 < nodesIn nodes))
   lay-needs = (
     (rw en (right-sound (h .right) .nodes), h .short),
     (rw (h .words) (joined-strict (edgePart s)), λ w e. rw en (joined-low (h .right) w (ap (has w) (sym (h .words)) ∙ e))),
@@ -91,13 +93,13 @@ pub front-short : (r n a : ℕ) (l : List ℕ) → length l ≡ length (replicat
 front-short r n a l e = let k : length l ≡ n = e ∙ length-replicate n a in simp length-take (omega arith)
 
 -- ---- too many entries
-pub total-over : (r n : ℕ) → ltb 1048576 r ≡ ltb 1048576 n → 1048576 < r → 1048576 < n
-total-over r n e h = ltb-true 1048576 n (sym e ∙ lt-ltb 1048576 r h)
+pub total-over : (r n : ℕ) → ltb mostEntries r ≡ ltb mostEntries n → mostEntries < r → mostEntries < n
+total-over r n e h = ltb-true mostEntries n (sym e ∙ lt-ltb mostEntries r h)
 
-module _ {s : List ℕ} (right : Right s) (over : 1048576 < entryTotal (storeIndex s)) where
+module _ {s : List ℕ} (right : Right s) (over : mostEntries < entryTotal (storeIndex s)) where
   many : true ≡ tooMany s
-  unfolding tooMany
-  many = sym (rw (lt-ltb 1048576 (entryTotal (storeIndex s)) over) (or-true (ltb 262144 (length (storeIndex s)))))
+  unfolding tooMany tooLarge
+  many = sym (rw (lt-ltb mostEntries (entryTotal (storeIndex s)) over) (or-true (ltb mostGroups (length (storeIndex s)))))
 
   module _ (above : Bool) (ea : above ≡ exceeds s) where
     pub many-four : above ≡ true → 4 ≡ graphNumber s

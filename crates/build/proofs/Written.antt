@@ -13,7 +13,7 @@ use Rattle.rules.specs.Lists.{range, all, keep}
 use Rattle.rules.specs.Store.{edgePart, nodePart, constraintPart, constraintsIn, constraintAt}
 use Rattle.rules.specs.Graph.{storeGraph, graphOf}
 use Rattle.rules.specs.Index.{groupBytes, entryBytes, storeIndex, entryTotal}
-use Rattle.laws.specs.Keeping.{all-flat}
+use Rattle.laws.specs.All.{all-flat}
 use Rattle.build_edges.specs.Packed.{forwardWords, wordIn, labelledIn}
 use Rattle.build_edges.specs.Sound.{joinedSet}
 use Rattle.build_neighbours.specs.Left.{labelsLeft}

@@ -5,4 +5,4 @@ use Rattle.rules.specs.Answers.{Outcome}
 
 -- a number, a length, and the room as it is left
 abbrev pub gave : ℕ → ℕ → List ℕ → Outcome
-gave number length room = record { number = number; results = length ∷ []; room = room; work = [] }
+gave number length room = record { number = number; results = length ∷ []; room = room; second = []; work = [] }

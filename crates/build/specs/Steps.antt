@@ -1,24 +1,24 @@
 -- What is known between the steps of building and admitting.
 use Prim.Native.Nat.{ℕ, _+_, _*_, _≤_, _<_}
 use mathlib.Core.Path.{_≡_}
-use mathlib.Core.Bool.{Bool, true, false, _&&_}
-use mathlib.Core.List.{List}
+use mathlib.Core.Bool.{Bool, true, false, not, _&&_}
+use mathlib.Core.List.{List, [], _∷_}
 use lib.ListN.{length}
-use Rattle.rules.specs.Store.{groupsAt, constraintPart, draftRight, recordsRight, constraintsRight}
+use Rattle.rules.specs.Store.{constraintPart, constraintsRight, draftRight, edgePart, groupsAt, mostEntries, nodePart, recordsRight}
 use Rattle.rules.specs.Words.{part}
 use Rattle.rules.specs.Index.{storeIndex, entryTotal, groupBytes, entryBytes}
-use Rattle.rules.specs.Answers.{same}
+use Rattle.rules.specs.Answers.{_when_, firstOf, same}
 use Rattle.build_keys.specs.Pass.{Right, AtHand, Laid}
 
 -- it is told whether the index has too many entries; where it has not, they are arranged
 pub record Settled (s joined : List ℕ) (many : Bool) : Type 0 where
-  pub over : many ≡ true → 1048576 < entryTotal (storeIndex s)
+  pub over : many ≡ true → mostEntries < entryTotal (storeIndex s)
   pub hand : many ≡ true → AtHand s joined
   pub laid : many ≡ false → Laid s joined
 
 -- the number of refusal 2 or 3, 0 for neither
 unfoldable pub recordNumber : List ℕ → ℕ
-recordNumber s = elim (recordsRight s) [ true ↦ elim (constraintsRight (constraintPart s)) [ true ↦ 0 | false ↦ 3 ] | false ↦ 2 ]
+recordNumber s = firstOf (2 when not (recordsRight (nodePart s) (edgePart s)) ∷ 3 when not (constraintsRight (constraintPart s)) ∷ [])
 
 -- a draft whose store has so many groups and entries, and fits into n bytes
 pub record Fitting (draft : List ℕ) (g e n : ℕ) : Type 0 where

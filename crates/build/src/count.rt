@@ -6,7 +6,7 @@ ghost use mathlib.Core.Bool.{true, false};
 ghost use lib.ListN.{length};
 ghost use Rattle.rules.specs.Store.{constraintPart, constraintsRight, groupsAt, headerRight};
 ghost use Rattle.rules.specs.Index.{exceeds, tooMany, storeIndex, entryTotal};
-ghost use Rattle.rules.specs.Answers.{graphNumber};
+ghost use Rattle.laws.specs.Refusals.{graphNumber};
 ghost use Rattle.build_keys.specs.Pass.{Laid};
 ghost use Rattle.build.specs.Steps.{recordNumber};
 ghost use Prim.Native.Nat.{_≤_};
@@ -28,7 +28,7 @@ fn some_above(s: &[u8], joined: &[u32]) -> bool
         mode: 0,
         above: 1,
         groups: 0,
-        entries: 1048576,
+        entries: rules::MOST_ENTRIES,
         table: 0,
         lists: 0,
     };
@@ -45,8 +45,8 @@ fn count_all(s: &[u8], joined: &[u32]) -> Progress
     let task = Purpose {
         mode: 0,
         above: 0,
-        groups: 262144,
-        entries: 1048576,
+        groups: rules::MOST_GROUPS,
+        entries: rules::MOST_ENTRIES,
         table: 0,
         lists: 0,
     };

@@ -15,9 +15,10 @@ ghost use mathlib.Core.Bool.{true};
 ghost use Prim.Native.Nat.{_+_, _*_, _≤_, _<_};
 ghost use lib.ListN.{length, take};
 ghost use Rattle.rules.specs.Words.{over};
-ghost use Rattle.rules.specs.Store.{nodeCount, edgeCount, constraintCount, groupsAt, header, draftRight};
+ghost use Rattle.rules.specs.Store.{mostEntries, nodeCount, edgeCount, constraintCount, groupsAt, header, draftRight};
 ghost use Rattle.rules.specs.Index.{storeIndex, entryTotal, storeOf};
-ghost use Rattle.rules.specs.Answers.{same, graphNumber, buildOutcome, admitNumber};
+ghost use Rattle.rules.specs.Answers.{same, buildOutcome, admitNumber};
+ghost use Rattle.laws.specs.Refusals.{graphNumber};
 ghost use Rattle.laws.specs.Header.{Limits};
 ghost use Rattle.build_keys.specs.Pass.{AtHand, Laid};
 ghost use Rattle.build.specs.Steps.{Settled, Fitting, indexSame};
@@ -46,7 +47,7 @@ fn settle(s: &[u8], joined: &mut [u32]) -> bool
 
 // The number of refusal 4 or 11 where the index has too many entries: it is not gone through.
 fn number_of_many(s: &[u8], joined: &[u32]) -> u32
-    requires { ⌜ AtHand (now s) (now joined) × (1048576 < entryTotal (storeIndex (now s))) ⌝ }
+    requires { ⌜ AtHand (now s) (now joined) × (mostEntries < entryTotal (storeIndex (now s))) ⌝ }
     ensures { λ r. ⌜ r ≡ graphNumber (now (s .entry)) ⌝ }
 {
     if build_longlist::some_exceeds(s, joined) {

@@ -8,9 +8,10 @@ use lib.ListN.{length, getD}
 use lib.Seq.{ext-getD}
 use borrow.Author.Tests.{lt-ltb, le-leb}
 use Rattle.rules.specs.Words.{u32At, part}
-use Rattle.rules.specs.Lists.{keep, has, Strict}
+use Rattle.rules.specs.Lists.{keep, has}
+use Rattle.laws.specs.Strict.{Strict}
 use Rattle.rules.specs.Store.{edgesIn, fromAt, toAt}
-use Rattle.laws.specs.Members.{has-keep, keep-from}
+use Rattle.laws.specs.Keep.{has-keep, keep-from}
 use Rattle.laws.specs.Parts.{length-part, get-part, u32-part}
 use Rattle.laws.specs.Searching.{standsIn, stands-has, between}
 use Rattle.build_edges.specs.Packed.{forwardAt, forwardWords, wordIn}

@@ -8,13 +8,14 @@ use Prim.Native.Nat.{ℕ, zero, suc, _+_, _*_, _≤_, _<_}
 use lib.Dec.{eqb, ltb}
 use lib.ListN.{length, getD, length-map}
 use borrow.Author.Tests.{le-ltb, lt-ltb, eqb-true, ltb-true}
-use Rattle.rules.specs.Lists.{range, From, Strict, halving}
+use Rattle.rules.specs.Lists.{range, halving}
+use Rattle.laws.specs.Strict.{From, Strict}
 use Rattle.rules.specs.Store.{edgesIn, fromAt, toAt, edgeBefore}
 use Rattle.laws.specs.Cases.{first-holds, second-holds}
 use Rattle.laws.specs.Halving.{HalvingLeft, half-start}
 use Rattle.laws.specs.Searching.{isBelow, lower, standsIn}
 use Rattle.build_edges.specs.Packed.{forwardAt, forwardWords, wordIn}
-use Rattle.build_edges.proofs.Ranges.{length-range}
+use Rattle.laws.specs.Range.{length-range}
 
 -- ---- a word is sought for ids below 65,536 alone
 module _ (ws : List ℕ) (u v : ℕ) where

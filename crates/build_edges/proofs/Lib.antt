@@ -1,7 +1,6 @@
 pub mod Sections
 mod Filling
 pub mod Kept
-pub mod Ranges
 pub mod Edges
 mod Starting
 mod Beginnings

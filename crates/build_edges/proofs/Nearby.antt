@@ -1,24 +1,28 @@
 -- Laws of the nodes near a list: the words of a node stand together, their low halves ascend, and no node that matters is left out. Assumes nothing.
 use native.Mathlib.Omega.{arith}
-use native.Mathlib.Decide.{decLe, ℕ-discrete}
+use native.Mathlib.Decide.{decLe}
 use mathlib.Core.Path.{_≡_, refl, sym, ap, _∙_}
-use mathlib.Core.Bool.{Bool, true, false, _&&_, _||_, true≢false}
+use mathlib.Core.Bool.{Bool, true, false, _&&_, true≢false, and-comm}
 use mathlib.Core.List.{List, [], _∷_, _++_, flatMap, append-nil, append-assoc}
-use Prim.Native.Nat.{ℕ, zero, suc, _+_, _-_, _*_, _%_, _≤_, _<_}
-use lib.Dec.{eqb, ltb}
+use Prim.Native.Nat.{ℕ, _+_, _-_, _*_, _≤_, _<_}
+use lib.Dec.{ltb}
 use lib.ListN.{length, take, drop, length-append}
 use lib.Seq.{slice, take-length, take-at}
-use borrow.Author.Tests.{lt-ltb, le-ltb, le-leb, lt-leb, eq-eqb, ne-eqb}
+use borrow.Author.Tests.{lt-ltb, le-ltb}
 use Rattle.rules.specs.Words.{part}
-use Rattle.rules.specs.Lists.{range, has, keep, sortOf, setOf, From, Strict}
+use Rattle.rules.specs.Lists.{range, has, keep, sortOf, setOf}
+use Rattle.laws.specs.Strict.{Strict, from-lower}
 use Rattle.rules.specs.Store.{nodesIn}
 use Rattle.laws.specs.Sets.{same-members, is-set}
-use Rattle.laws.specs.Members.{keep-yes, keep-no, has-keep, keep-from, from-lower, has-append}
-use Rattle.laws.specs.Chosen.{keep-append}
+use Rattle.laws.specs.Keep.{keep-no, has-keep, keep-from, keep-append, flat-kept, keep-whole}
+use Rattle.laws.specs.Has.{has-append}
 use Rattle.laws.specs.PartMembers.{part-slice}
-use Rattle.laws.specs.Searching.{lower, standsIn, stands-has, between, range-of, lower-order, lower-within}
+use Rattle.laws.specs.Searching.{lower, standsIn, stands-has, range-of, lower-order, lower-within}
+use Rattle.laws.specs.Lows.{lows, mine, lows-from, lows-has, lows-none}
+use Rattle.laws.specs.Range.{range-from, has-range}
+use Rattle.laws.specs.Cases.{or-first, or-second}
 use Rattle.build_edges.specs.Packed.{wordIn, hasLabel, labelledIn}
-use Rattle.build_edges.specs.Near.{wordsOf, lows, nearOf, isLabelled, Joined, Tried}
+use Rattle.build_edges.specs.Near.{wordsOf, nearOf, isLabelled, Joined, Tried}
 
 -- ---- the words of a node, as two searches find them
 pub words-found : (words : List ℕ) (u a e : ℕ) → Strict words → a ≡ lower (u * 65536) words → e ≡ lower ((u + 1) * 65536) words → part words a e ≡ wordsOf words u
@@ -36,68 +40,14 @@ pub found-order : (words : List ℕ) (u a e : ℕ) → Strict words → a ≡ lo
 found-order words u a e s p q = rw (p, q) (lower-order (u * 65536) ((u + 1) * 65536) words s (omega arith))
 
 -- ---- their low halves ascend, and are those that stand with the node
-module _ (v : ℕ) where
-  abbrev mine : ℕ → Bool
-  mine = between (v * 65536) ((v + 1) * 65536)
-
-  mine-yes : (y : ℕ) → v * 65536 ≤ y → y < (v + 1) * 65536 → mine y ≡ true
-  mine-yes y a c = rw (le-leb (v * 65536) y a, lt-ltb y ((v + 1) * 65536) c)
-
-  mine-low : (y : ℕ) → y < v * 65536 → mine y ≡ false
-  mine-low y a = rw (lt-leb (v * 65536) y a)
-
-  mine-high : (y : ℕ) → (v + 1) * 65536 ≤ y → mine y ≡ false
-  mine-high y a = rw (le-leb (v * 65536) y (omega arith), le-ltb y ((v + 1) * 65536) a)
-
-  lows-from : (n : ℕ) (ws : List ℕ) → From n ws → From (n - v * 65536) (lows (keep mine ws))
-  unfolding From
-  lows-from n [] f = unfold keep in tt
-  lows-from n (y ∷ ws) f = go (decLe (v * 65536) y) (decLe ((v + 1) * 65536) y) (lows-from (suc y) ws (f .1))
-    where
-      go : Dec (v * 65536 ≤ y) → Dec ((v + 1) * 65536 ≤ y) → From (suc y - v * 65536) (lows (keep mine ws)) → From (n - v * 65536) (lows (keep mine (y ∷ ws)))
-      go (yes a) (no c) ih =
-          let k = f .0 in
-          let e : suc y - v * 65536 ≡ suc (y % 65536) = omega arith in
-          rw (keep-yes mine y ws (mine-yes y a (omega arith))) (omega arith, rw e at ih)
-      go (yes a) (yes c) ih =
-          let k = f .0 in
-          rw (keep-no mine y ws (mine-high y c)) (from-lower (n - v * 65536) (suc y - v * 65536) (lows (keep mine ws)) (omega arith) ih)
-      go (no a) c ih =
-          let k = f .0 in
-          rw (keep-no mine y ws (mine-low y (omega arith))) (from-lower (n - v * 65536) (suc y - v * 65536) (lows (keep mine ws)) (omega arith) ih)
-
-  keep-has : (z : ℕ) (ws : List ℕ) → z < 65536 → has z (lows (keep mine ws)) ≡ has (v * 65536 + z) ws
-  unfolding has
-  keep-has z [] h = unfold keep in refl
-  keep-has z (y ∷ ws) h = go (decLe (v * 65536) y) (decLe ((v + 1) * 65536) y) (ℕ-discrete (v * 65536 + z) y) (keep-has z ws h)
-    where
-      go : Dec (v * 65536 ≤ y) → Dec ((v + 1) * 65536 ≤ y) → Dec (v * 65536 + z ≡ y) → has z (lows (keep mine ws)) ≡ has (v * 65536 + z) ws
-          → has z (lows (keep mine (y ∷ ws))) ≡ (eqb (v * 65536 + z) y || has (v * 65536 + z) ws)
-      go (yes a) (no c) (yes e) ih = rw (keep-yes mine y ws (mine-yes y a (omega arith)), eq-eqb (v * 65536 + z) y e, eq-eqb z (y % 65536) (omega arith))
-      go (yes a) (no c) (no e) ih =
-          rw (keep-yes mine y ws (mine-yes y a (omega arith)), ne-eqb (v * 65536 + z) y e, ne-eqb z (y % 65536) (λ q. e (omega arith))) ih
-      go (yes a) (yes c) e ih = rw (keep-no mine y ws (mine-high y c), ne-eqb (v * 65536 + z) y (λ q. omega arith)) ih
-      go (no a) c e ih = rw (keep-no mine y ws (mine-low y (omega arith)), ne-eqb (v * 65536 + z) y (λ q. omega arith)) ih
-
-pub lows-none : (z : ℕ) (ws : List ℕ) → 65536 ≤ z → has z (lows ws) ≡ false
-unfolding has
-lows-none z [] h = refl
-lows-none z (y ∷ ws) h = rw (ne-eqb z (y % 65536) (λ q. omega arith)) (lows-none z ws h)
-
-pub and-swap : (a b : Bool) → (a && b) ≡ (b && a)
-and-swap true true = refl
-and-swap true false = refl
-and-swap false true = refl
-and-swap false false = refl
-
 -- so they are the nodes that stand with it
-lows-has : (joined : List ℕ) (u z : ℕ) → Strict joined → u < 65536 → has z (lows (wordsOf joined u)) ≡ wordIn joined u z
+near-has : (joined : List ℕ) (u z : ℕ) → Strict joined → u < 65536 → has z (lows (wordsOf joined u)) ≡ wordIn joined u z
 unfolding wordsOf wordIn
-lows-has joined u z s h = go (decLe 65536 z)
+near-has joined u z s h = go (decLe 65536 z)
   where
     go : Dec (65536 ≤ z) → has z (lows (keep (mine u) joined)) ≡ (ltb u 65536 && ltb z 65536 && standsIn (u * 65536 + z) joined)
     go (yes k) = rw (lt-ltb u 65536 h, le-ltb z 65536 k) (lows-none z (keep (mine u) joined) k)
-    go (no k) = rw (lt-ltb u 65536 h, lt-ltb z 65536 (omega arith)) (keep-has u z joined (omega arith) ∙ sym (stands-has (u * 65536 + z) joined s))
+    go (no k) = rw (lt-ltb u 65536 h, lt-ltb z 65536 (omega arith)) (lows-has u z joined (omega arith) ∙ sym (stands-has (u * 65536 + z) joined s))
 
 lows-strict : (joined : List ℕ) (u : ℕ) → Strict joined → Strict (lows (wordsOf joined u))
 unfolding wordsOf
@@ -109,27 +59,10 @@ pub either-side : (joined list : List ℕ) (u : ℕ) → Strict joined → Stric
 either-side joined list u s t h =
     same-members 0 (keep (λ v. standsIn v list) (lows (wordsOf joined u))) (keep (wordIn joined u) list)
     (keep-from (λ v. standsIn v list) 0 (lows (wordsOf joined u)) (lows-strict joined u s)) (keep-from (wordIn joined u) 0 list t)
-    (λ z. has-keep (λ v. standsIn v list) z (lows (wordsOf joined u)) ∙ rw (lows-has joined u z s h, stands-has z list t) (and-swap (has z list) (wordIn joined u z))
+    (λ z. has-keep (λ v. standsIn v list) z (lows (wordsOf joined u)) ∙ rw (near-has joined u z s h, stands-has z list t) (and-comm (has z list) (wordIn joined u z))
     ∙ sym (has-keep (wordIn joined u) z list))
 
 -- ---- the nodes labelled l
-range-from : (k n : ℕ) → From k (range k n)
-unfolding From range
-range-from k zero = tt
-range-from k (suc n) = (omega arith, from-lower (suc k) (k + 1) (range (k + 1) n) (omega arith) (range-from (k + 1) n))
-
-pub has-range : (z k n : ℕ) → k ≤ z → has z (range k n) ≡ ltb z (k + n)
-unfolding has range
-has-range z k zero h = sym (le-ltb z (k + 0) (omega arith))
-has-range z k (suc n) h = go (ℕ-discrete z k) (λ q. has-range z (k + 1) n q)
-  where
-    go : Dec (z ≡ k) → (k + 1 ≤ z → has z (range (k + 1) n) ≡ ltb z (k + 1 + n)) → (eqb z k || has z (range (k + 1) n)) ≡ ltb z (k + suc n)
-    go (yes e) ih = rw (eq-eqb z k e) (sym (lt-ltb z (k + suc n) (omega arith)))
-    go (no f) ih =
-        let a : k + 1 ≤ z = omega arith in
-        let e : k + 1 + n ≡ k + suc n = omega arith in
-        rw (ne-eqb z k f) (rw e at (ih a))
-
 pub labelled-strict : (nodes : List ℕ) (l : ℕ) → Strict (labelledIn nodes l)
 unfolding labelledIn
 labelled-strict nodes l = keep-from (hasLabel nodes l) 0 (range 0 (nodesIn nodes)) (range-from 0 (nodesIn nodes))
@@ -139,17 +72,9 @@ unfolding labelledIn isLabelled
 labelled-has nodes l z =
     let e : 0 + nodesIn nodes ≡ nodesIn nodes = omega arith in
     let m : has z (range 0 (nodesIn nodes)) ≡ ltb z (nodesIn nodes) = has-range z 0 (nodesIn nodes) (omega arith) ∙ ap (ltb z) e in
-    has-keep (hasLabel nodes l) z (range 0 (nodesIn nodes)) ∙ ap (λ t. hasLabel nodes l z && t) m ∙ and-swap (hasLabel nodes l z) (ltb z (nodesIn nodes))
+    has-keep (hasLabel nodes l) z (range 0 (nodesIn nodes)) ∙ ap (λ t. hasLabel nodes l z && t) m ∙ and-comm (hasLabel nodes l z) (ltb z (nodesIn nodes))
 
 -- ---- what is tried
-or-first : (a b : Bool) → (a || b) ≡ false → a ≡ false
-or-first true b h = h
-or-first false b h = refl
-
-or-second : (a b : Bool) → (a || b) ≡ false → b ≡ false
-or-second true b h = absurd (true≢false h)
-or-second false b h = h
-
 high-none : (joined : List ℕ) (u v : ℕ) → 65536 ≤ u → wordIn joined u v ≡ false
 unfolding wordIn
 high-none joined u v h = rw (le-ltb u 65536 h)
@@ -166,7 +91,7 @@ module _ {joined : List ℕ} (j : Joined joined) where
     where
       apart : Dec (65536 ≤ v) → has u (lows (wordsOf joined v)) ≡ false → wordIn joined u v ≡ false
       apart (yes k) a = j .both u v ∙ high-none joined v u k
-      apart (no k) a = j .both u v ∙ sym (lows-has joined v u (j .strict) (omega arith)) ∙ a
+      apart (no k) a = j .both u v ∙ sym (near-has joined v u (j .strict) (omega arith)) ∙ a
 
   pub set-tried : (nodes : List ℕ) (l : ℕ) (list : List ℕ) → Tried nodes joined l list (setOf (keep (isLabelled nodes l) (nearOf joined list)))
   set-tried nodes l list =
@@ -177,26 +102,11 @@ module _ {joined : List ℕ} (j : Joined joined) where
         all = sym (is-set (keep (λ u. has u near) (labelledIn nodes l)) (keep (isLabelled nodes l) near)
             (keep-from (λ u. has u near) 0 (labelledIn nodes l) (labelled-strict nodes l))
             (λ z. has-keep (λ u. has u near) z (labelledIn nodes l) ∙ ap (λ t. has z near && t) (labelled-has nodes l z)
-            ∙ and-swap (has z near) (isLabelled nodes l z) ∙ sym (has-keep (isLabelled nodes l) z near)));
+            ∙ and-comm (has z near) (isLabelled nodes l z) ∙ sym (has-keep (isLabelled nodes l) z near)));
       }
 
-pub keep-all : (l : List ℕ) → keep (λ v. true) l ≡ l
-unfolding keep
-keep-all [] = refl
-keep-all (x ∷ l) = ap (λ t. x ∷ t) (keep-all l)
-
 pub all-tried : (nodes joined : List ℕ) (l : ℕ) (list : List ℕ) → Tried nodes joined l list (labelledIn nodes l)
-all-tried nodes joined l list = record { test = λ u. true; rest = λ u h. absurd (true≢false h); all = sym (keep-all (labelledIn nodes l)) }
-
--- what gives nothing may be left out
-flat-kept : {B : Type 0} (p : ℕ → Bool) (g : ℕ → List B) → ((x : ℕ) → p x ≡ false → g x ≡ []) → (xs : List ℕ) → flatMap g (keep p xs) ≡ flatMap g xs
-unfolding flatMap
-flat-kept p g h [] = unfold keep in refl
-flat-kept p g h (x ∷ xs) = go (p x) refl (flat-kept p g h xs)
-  where
-    go : (t : Bool) → p x ≡ t → flatMap g (keep p xs) ≡ flatMap g xs → flatMap g (keep p (x ∷ xs)) ≡ g x ++ flatMap g xs
-    go true e ih = rw (keep-yes p x xs e) (ap (λ t. g x ++ t) ih)
-    go false e ih = rw (keep-no p x xs e, h x e) ih
+all-tried nodes joined l list = record { test = λ u. true; rest = λ u h. absurd (true≢false h); all = sym (keep-whole (λ v. true) (labelledIn nodes l) (λ v h. refl)) }
 
 pub tried-flat : {B : Type 0} {nodes joined : List ℕ} {l : ℕ} {list tried : List ℕ} → Tried nodes joined l list tried → (g : ℕ → List B)
     → ((u : ℕ) → keep (wordIn joined u) list ≡ [] → g u ≡ []) → flatMap g tried ≡ flatMap g (labelledIn nodes l)

@@ -10,10 +10,10 @@ use lib.ListN.{length, getD, set, length-set}
 use lib.Seq.{slice, take-length, getD-set-same, getD-set-other}
 use borrow.Author.Tests.{lt-ltb, le-ltb, le-leb, lt-leb, ltb-true}
 use Rattle.rules.specs.Words.{part}
-use Rattle.rules.specs.Lists.{keep, From, Strict}
+use Rattle.rules.specs.Lists.{keep}
+use Rattle.laws.specs.Strict.{Strict, from-up}
 use Rattle.rules.specs.Store.{edgesIn, fromAt}
-use Rattle.laws.specs.Members.{keep-yes, keep-no}
-use Rattle.laws.specs.Keeping.{keep-most, keep-fewer}
+use Rattle.laws.specs.Keep.{keep-yes, keep-no, keep-most, keep-fewer}
 use Rattle.laws.specs.PartMembers.{part-slice}
 use Rattle.laws.specs.Searching.{between}
 use Rattle.build_edges.specs.Packed.{forwardAt, forwardWords, EdgesBelow}
@@ -192,18 +192,6 @@ started {words} {starts} {v} {i} c s n after e h long f =
     record { climbs = c; long = long; at = onward c s 65536 after (s .most) (λ j p r. absurd (omega arith)) (rw q at f) }
 
 -- ---- the words of edges
-from-up : (n : ℕ) (ws : List ℕ) → From n ws → (i j : ℕ) → i ≤ j → j < length ws → (n ≤ getD ws i 0) × (getD ws i 0 ≤ getD ws j 0)
-unfolding From
-from-up n [] f i j h k = absurd (omega arith)
-from-up n (y ∷ ws) f zero zero h k = (f .0, omega arith)
-from-up n (y ∷ ws) f zero (suc j) h k = let a = from-up (suc y) ws (f .1) j j (omega arith) (omega arith) in let b = a .0 in (f .0, omega arith)
-from-up n (y ∷ ws) f (suc i) zero h k = absurd (omega arith)
-from-up n (y ∷ ws) f (suc i) (suc j) h k =
-    let a = from-up (suc y) ws (f .1) i j (omega arith) (omega arith) in
-    let b = a .0 in
-    let l = f .0 in
-    (omega arith, a .1)
-
 pub strict-climbs : (ws : List ℕ) → Strict ws → Climbs ws
 strict-climbs ws s = record { up = λ i j h k. let a = from-up 0 ws s i j h k .1 in omega arith }
 

@@ -1,21 +1,19 @@
 -- The nodes near a list, found from the words of its own nodes.
-use Prim.Native.Nat.{ℕ, _+_, _*_, _%_}
+use Prim.Native.Nat.{ℕ, _+_, _*_}
 use mathlib.Core.Path.{_≡_}
 use mathlib.Core.Bool.{Bool, false, _&&_}
-use mathlib.Core.List.{List, [], map, flatMap}
+use mathlib.Core.List.{List, [], flatMap}
 use lib.Dec.{ltb}
-use Rattle.rules.specs.Lists.{keep, Strict}
+use Rattle.rules.specs.Lists.{keep}
+use Rattle.laws.specs.Strict.{Strict}
 use Rattle.rules.specs.Store.{nodesIn}
 use Rattle.laws.specs.Searching.{between}
+use Rattle.laws.specs.Lows.{lows}
 use Rattle.build_edges.specs.Packed.{wordIn, hasLabel, labelledIn}
 
 -- the words with u in their high half
 unfoldable pub wordsOf : List ℕ → ℕ → List ℕ
 wordsOf words u = keep (between (u * 65536) ((u + 1) * 65536)) words
-
--- the low halves of some words
-abbrev pub lows : List ℕ → List ℕ
-lows words = map (λ w. w % 65536) words
 
 -- the neighbours of all nodes of a list, one node after another
 unfoldable pub nearOf : List ℕ → List ℕ → List ℕ

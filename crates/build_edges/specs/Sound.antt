@@ -2,8 +2,9 @@
 use Prim.Native.Nat.{ℕ, _≤_}
 use mathlib.Core.List.{List, _++_, map}
 use lib.ListN.{length}
-use Rattle.rules.specs.Lists.{range, setOf, Strict}
-use Rattle.rules.specs.Store.{edgesIn, nodesIn, constraintsIn, groupsAt, nodePart, edgePart, constraintPart}
+use Rattle.rules.specs.Lists.{range, setOf}
+use Rattle.laws.specs.Strict.{Strict}
+use Rattle.rules.specs.Store.{mostConstraints, mostEdges, mostNodes, edgesIn, nodesIn, constraintsIn, groupsAt, nodePart, edgePart, constraintPart}
 use Rattle.build_edges.specs.Packed.{backwardAt, EdgesBelow, forwardWords}
 
 -- the edges as words, each both ways round, ascending
@@ -13,8 +14,8 @@ joinedSet edges = setOf (forwardWords edges ++ map (backwardAt edges) (range 0 (
 -- a store whose sections are there and whose edges, as words, ascend
 pub record Sound (s : List ℕ) : Type 0 where
   pub long : groupsAt s ≤ length s
-  pub nodes : nodesIn (nodePart s) ≤ 65535
-  pub edges : edgesIn (edgePart s) ≤ 262144
-  pub constraints : constraintsIn (constraintPart s) ≤ 32
+  pub nodes : nodesIn (nodePart s) ≤ mostNodes
+  pub edges : edgesIn (edgePart s) ≤ mostEdges
+  pub constraints : constraintsIn (constraintPart s) ≤ mostConstraints
   pub below : EdgesBelow (edgePart s)
   pub ascends : Strict (forwardWords (edgePart s))

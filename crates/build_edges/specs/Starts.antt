@@ -4,7 +4,8 @@ use mathlib.Core.Path.{_≡_}
 use mathlib.Core.List.{List}
 use lib.Dec.{ltb}
 use lib.ListN.{length, getD}
-use Rattle.rules.specs.Lists.{keep, Strict}
+use Rattle.rules.specs.Lists.{keep}
+use Rattle.laws.specs.Strict.{Strict}
 use Rattle.build_edges.specs.Packed.{forwardWords}
 
 -- how many words have a node below v in their high half

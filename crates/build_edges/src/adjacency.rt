@@ -4,7 +4,7 @@ ghost use mathlib.Core.List.{_++_, map};
 ghost use Prim.Native.Nat.{_≤_, _<_};
 ghost use lib.ListN.{length, take, drop};
 ghost use Rattle.rules.specs.Lists.{range, keep};
-ghost use Rattle.rules.specs.Store.{edgesIn, nodesIn};
+ghost use Rattle.rules.specs.Store.{mostNodes, edgesIn, nodesIn};
 ghost use Rattle.laws.specs.Searching.{isBelow, lower, standsIn};
 ghost use Rattle.build_edges.specs.Packed.{forwardAt, backwardAt, EdgesBelow, forwardWords, wordIn, hasLabel, labelledIn};
 ghost use Rattle.build_edges.specs.Near.{wordsOf};
@@ -136,7 +136,7 @@ pub fn has_label(nodes: &[u8], l: u16, v: usize) -> bool
 
 // Leaves the nodes labelled l, ascending, at the front of out, and returns how many they are.
 pub fn labelled(nodes: &[u8], l: u16, out: &mut [u32]) -> usize
-    requires { ⌜ (nodesIn (now nodes) ≤ length (now out)) × (nodesIn (now nodes) ≤ 65535) ⌝ }
+    requires { ⌜ (nodesIn (now nodes) ≤ length (now out)) × (nodesIn (now nodes) ≤ mostNodes) ⌝ }
     ensures { λ r. ⌜ (r ≤ nodesIn (now (nodes .entry))) × (take r (now (out .exit)) ≡ labelledIn (now (nodes .entry)) l) ⌝ }
 {
     let n = nodes.len() / 8;

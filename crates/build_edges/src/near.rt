@@ -6,11 +6,13 @@ ghost use mathlib.Core.Path.{_≡_};
 ghost use mathlib.Core.List.{_++_};
 ghost use Prim.Native.Nat.{_+_, _≤_, _<_};
 ghost use lib.ListN.{length, take};
-ghost use Rattle.rules.specs.Lists.{keep, Strict};
-ghost use Rattle.rules.specs.Store.{nodesIn};
+ghost use Rattle.rules.specs.Lists.{keep};
+ghost use Rattle.laws.specs.Strict.{Strict};
+ghost use Rattle.rules.specs.Store.{mostNodes, nodesIn};
 ghost use Rattle.laws.specs.Searching.{standsIn};
 ghost use Rattle.build_edges.specs.Packed.{wordIn};
-ghost use Rattle.build_edges.specs.Near.{wordsOf, lows, nearOf, isLabelled, Joined, Tried};
+ghost use Rattle.build_edges.specs.Near.{wordsOf, nearOf, isLabelled, Joined, Tried};
+ghost use Rattle.laws.specs.Lows.{lows};
 
 // The words with u in their high half.
 pub fn words_of(words: &[u32], u: u32) -> &[u32]
@@ -115,7 +117,7 @@ pub fn tried(
     out: &mut [u32],
     scratch: &mut [u32],
 ) -> usize
-    requires { ⌜ ((65536 ≤ length (now out)) × (65536 ≤ length (now scratch))) × ((nodesIn (now nodes) ≤ 65535) × Joined (now joined)) ⌝ }
+    requires { ⌜ ((65536 ≤ length (now out)) × (65536 ≤ length (now scratch))) × ((nodesIn (now nodes) ≤ mostNodes) × Joined (now joined)) ⌝ }
     ensures { λ r. ⌜ (r ≤ 65536) × Tried (now (nodes .entry)) (now (joined .entry)) l (now (list .entry)) (take r (now (out .exit))) ⌝ }
 {
     let k = gather(nodes, joined, list, l, out);

@@ -2,8 +2,8 @@
 ghost use mathlib.Core.Path.{_≡_};
 ghost use Prim.Native.Nat.{_≤_, _<_};
 ghost use lib.ListN.{length};
-ghost use Rattle.rules.specs.Lists.{Strict};
-ghost use Rattle.rules.specs.Store.{edgesIn};
+ghost use Rattle.laws.specs.Strict.{Strict};
+ghost use Rattle.rules.specs.Store.{mostEdges, edgesIn};
 ghost use Rattle.build_edges.specs.Packed.{EdgesBelow, forwardWords};
 ghost use Rattle.build_edges.specs.Near.{wordsOf};
 ghost use Rattle.build_edges.specs.Starts.{Begun, Climbs, Filled};
@@ -42,7 +42,7 @@ pub fn put_starts(words: &[u32], starts: &mut [u32])
 
 // The same for edges, by where they come from.
 pub fn put_begins(edges: &[u8], begins: &mut [u32])
-    requires { ⌜ ((edgesIn (now edges) ≤ 262144) × (65536 ≤ length (now begins))) × (EdgesBelow (now edges) × Strict (forwardWords (now edges))) ⌝ }
+    requires { ⌜ ((edgesIn (now edges) ≤ mostEdges) × (65536 ≤ length (now begins))) × (EdgesBelow (now edges) × Strict (forwardWords (now edges))) ⌝ }
     ensures { λ _. ⌜ Begun (forwardWords (now (edges .entry))) (now (begins .exit)) ⌝ }
 {
     let n = edges.len() / 8;

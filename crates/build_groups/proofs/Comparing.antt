@@ -2,7 +2,7 @@
 use native.Mathlib.Omega.{arith}
 use native.Mathlib.Decide.{decLe}
 use mathlib.Core.Path.{_≡_, refl, sym, ap, _∙_}
-use mathlib.Core.Bool.{Bool, true, false, _&&_, and-assoc}
+use mathlib.Core.Bool.{Bool, true, false, _&&_}
 use mathlib.Core.List.{List, [], _∷_, _++_, flatMap}
 use Prim.Native.Nat.{ℕ, suc, _+_, _-_, _*_, _≤_, _<_}
 use lib.Dec.{eqb, leb}
@@ -12,15 +12,10 @@ use borrow.Author.Tests.{eq-eqb, ne-eqb, le-leb, lt-leb}
 use Rattle.rules.specs.Words.{part, over}
 use Rattle.rules.specs.Answers.{same}
 use Rattle.laws.specs.Slices.{drop-next}
+use Rattle.laws.specs.Same.{same-append}
 use Rattle.build_groups.specs.Emit.{entryRecord, listRecords}
-use Rattle.build_groups.proofs.Records.{length-entry, over-all}
-
-pub same-append : (a b c d : List ℕ) → length a ≡ length c → same (a ++ b) (c ++ d) ≡ (same a c && same b d)
-unfolding same
-same-append [] b [] d h = refl
-same-append [] b (z ∷ c) d h = absurd (omega arith)
-same-append (y ∷ a) b [] d h = absurd (omega arith)
-same-append (y ∷ a) b (z ∷ c) d h = ap (λ t. eqb y z && t) (same-append a b c d (omega arith)) ∙ sym (and-assoc (eqb y z) (same a c) (same b d))
+use Rattle.build_groups.proofs.Records.{length-entry}
+use Rattle.laws.specs.Over.{over-all}
 
 -- a loop over both runs: what is left decides the whole
 pub record Left (a b : List ℕ) (i : ℕ) : Type 0 where

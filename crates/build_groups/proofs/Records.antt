@@ -1,17 +1,12 @@
 -- Writing the bytes of groups and entries: runs written one after another are one run. Assumes nothing.
 use native.Mathlib.Omega.{arith}
 use mathlib.Core.Path.{_≡_, refl, sym, ap, _∙_}
-use mathlib.Core.List.{List, [], _∷_, _++_, flatMap, append-nil}
+use mathlib.Core.List.{List, [], _∷_, _++_, flatMap}
 use Prim.Native.Nat.{ℕ, _+_, _*_, _≤_}
-use lib.ListN.{length, length-append, drop-of-length-le}
+use lib.ListN.{length, length-append}
 use Rattle.rules.specs.Words.{u32Bytes, encoded, over}
 use Rattle.laws.specs.Over.{over-over, over-nil, length-over}
 use Rattle.build_groups.specs.Emit.{dirsOf, groupRecord, entryRecord, listRecords}
-
--- what is written over the whole of a run is what stands there
-pub over-all : (s w : List ℕ) → length s ≤ length w → over s 0 w ≡ w
-unfolding over
-over-all s w h = rw (drop-of-length-le s {i = 0 + length w} (omega arith)) (append-nil w)
 
 module _ (s₀ s₁ s₂ s₃ s₄ s₅ s₆ : List ℕ) (at a b c d e f : ℕ) (fits : at + 24 ≤ length s₀) where
   -- six words in a row

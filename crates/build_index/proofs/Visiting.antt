@@ -14,8 +14,7 @@ use Rattle.rules.specs.Index.{noId}
 use Rattle.rules.specs.declared.Constraint.{Constraint}
 use Rattle.rules.specs.declared.Key.{Key}
 use Rattle.laws.specs.Cases.{first-holds}
-use Rattle.laws.specs.Keeping.{keep-most}
-use Rattle.laws.specs.Members.{has-keep, keep-yes, keep-no}
+use Rattle.laws.specs.Keep.{keep-most, has-keep, keep-yes, keep-no}
 use Rattle.build_edges.specs.Packed.{forwardWords, wordIn, hasLabel, labelledIn}
 use Rattle.build_edges.specs.Near.{isLabelled, Joined}
 use Rattle.build_edges.specs.Starts.{Begun}

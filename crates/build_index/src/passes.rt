@@ -9,7 +9,7 @@ ghost use mathlib.Core.List.{[], _∷_};
 ghost use Prim.Native.Nat.{_≤_, _<_};
 ghost use lib.ListN.{length};
 ghost use Rattle.rules.specs.Lists.{setOf};
-ghost use Rattle.rules.specs.Store.{constraintsIn};
+ghost use Rattle.rules.specs.Store.{mostConstraints, constraintsIn};
 ghost use Rattle.build_edges.specs.Packed.{forwardWords, labelledIn};
 ghost use Rattle.build_neighbours.specs.Side.{sideOf};
 ghost use Rattle.build_neighbours.specs.Left.{labelsIn};
@@ -207,7 +207,7 @@ fn visit(
     room: &mut [u8],
     tally: Progress,
 ) -> Progress
-    requires { ⌜ ((c < constraintsIn (now constraints)) × (constraintsIn (now constraints) ≤ 32)) × IndexReady task (now nodes) (now joined) (now starts) (now edges) (now begins) (now one) (now two) (now three) (now second) (now third) (now store) (now room) ⌝ }
+    requires { ⌜ ((c < constraintsIn (now constraints)) × (constraintsIn (now constraints) ≤ mostConstraints)) × IndexReady task (now nodes) (now joined) (now starts) (now edges) (now begins) (now one) (now two) (now three) (now second) (now third) (now store) (now room) ⌝ }
     ensures { λ r. ⌜ outputOf r (now (room .exit)) ≡ visited task (now (nodes .entry)) (setOf (now (joined .entry))) (forwardWords (now (edges .entry))) (now (constraints .entry)) (now (store .entry)) c (outputOf tally (now (room .entry))) ⌝ }
 {
     let d = store::constraint_at(constraints, c);
@@ -283,7 +283,7 @@ fn visit_all(
     room: &mut [u8],
     tally: Progress,
 ) -> Progress
-    requires { ⌜ (constraintsIn (now constraints) ≤ 32) × IndexReady task (now nodes) (now joined) (now starts) (now edges) (now begins) (now one) (now two) (now three) (now second) (now third) (now store) (now room) ⌝ }
+    requires { ⌜ (constraintsIn (now constraints) ≤ mostConstraints) × IndexReady task (now nodes) (now joined) (now starts) (now edges) (now begins) (now one) (now two) (now three) (now second) (now third) (now store) (now room) ⌝ }
     ensures { λ r. ⌜ outputOf r (now (room .exit)) ≡ visitedAll task (now (nodes .entry)) (setOf (now (joined .entry))) (forwardWords (now (edges .entry))) (now (constraints .entry)) (now (store .entry)) (outputOf tally (now (room .entry))) ⌝ }
 {
     let k = constraints.len() / 12;

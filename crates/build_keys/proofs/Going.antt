@@ -9,11 +9,12 @@ use lib.ListN.{length, take, getD, length-take}
 use lib.Seq.{getD-take}
 use borrow.Author.Tests.{le-ltb, lt-ltb, eq-eqb, ne-eqb}
 use Rattle.rules.specs.Words.{part}
-use Rattle.rules.specs.Lists.{keep, padded, Strict}
+use Rattle.rules.specs.Lists.{keep, padded}
+use Rattle.laws.specs.Strict.{Strict}
 use Rattle.rules.specs.Index.{noId}
-use Rattle.rules.specs.Store.{nodesIn}
+use Rattle.rules.specs.Store.{mostNodes, nodesIn}
 use Rattle.rules.specs.declared.Key.{Key}
-use Rattle.laws.specs.Keeping.{keep-most}
+use Rattle.laws.specs.Keep.{keep-most}
 use Rattle.laws.specs.Searching.{lower, lower-within}
 use Rattle.build_edges.specs.Packed.{wordIn, labelledIn}
 use Rattle.build_neighbours.specs.Pairs.{partTold, Paired}
@@ -179,7 +180,7 @@ module _ {task : Purpose} {nodes joined words : List ℕ} {left : Labels} {key :
       high : u ≡ getD (take n run) i 0 / 65536
       high = v ∙ ap (λ x. x / 65536) (sym (getD-take n run i 0 h))
 
-      pub small : nodesIn nodes ≤ 65535 → u < 65535
+      pub small : nodesIn nodes ≤ mostNodes → u < 65535
       small few = let k = labelled-below nodes (left .first) u (tried (g .pairs) (g .bound) i (g .reached) u here high) in omega arith
 
       module _ (r : ℕ) (e : r ≡ lower ((getD (take n run) i 0 / 65536 + 1) * 65536) (take n run)) where

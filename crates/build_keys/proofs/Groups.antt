@@ -2,8 +2,8 @@
 use native.Mathlib.Omega.{arith}
 use native.Mathlib.Decide.{decLe}
 use mathlib.Core.Path.{_≡_, refl, sym, ap, _∙_, fun-ext}
-use mathlib.Core.Bool.{Bool, true, false, cond, not, _&&_}
-use mathlib.Core.List.{List, [], _∷_, _++_, map, flatMap, append-assoc, append-nil}
+use mathlib.Core.Bool.{Bool, true, cond, not, _&&_}
+use mathlib.Core.List.{List, [], _∷_, _++_, map, flatMap, append-assoc, append-nil, map-map}
 use Prim.Native.Nat.{ℕ, suc, _≤_}
 use lib.Dec.{eqb, leb, ltb}
 use lib.ListN.{length}
@@ -13,50 +13,10 @@ use Rattle.rules.specs.Store.{labelsOf}
 use Rattle.rules.specs.Graph.{Graph, neighbours, labelled}
 use Rattle.rules.specs.Index.{Group, keysOf, listOf, satisfies, directionsOf, entriesOf, groupsOf}
 use Rattle.rules.specs.declared.Constraint.{Constraint}
-use Rattle.laws.specs.Keeping.{keep-most}
-use Rattle.build_edges.proofs.Nearby.{keep-all}
+use Rattle.laws.specs.Keep.{keep-most, keep-mapped, keep-keep, keep-whole, keep-flat}
+use Rattle.laws.specs.Map.{map-flat, flat-nil}
 use Rattle.build_groups.specs.Keyed.{Keyed, keyedFrom}
-use Rattle.build_neighbours.proofs.Twice.{keep-keep}
 use Rattle.build_keys.proofs.Going.{keyed-short, keyed-on}
-
--- ---- lists
-module _ {A : Type 0} (p : A → Bool) where
-  pub keep-append : (xs ys : List A) → keep p (xs ++ ys) ≡ keep p xs ++ keep p ys
-  unfolding keep
-  keep-append [] ys = refl
-  keep-append (x ∷ xs) ys = ap (λ l. cond (p x) (x ∷ []) [] ++ l) (keep-append xs ys) ∙ sym (append-assoc (cond (p x) (x ∷ []) []) (keep p xs) (keep p ys))
-
-  pub keep-flat : {B : Type 0} (f : B → List A) (xs : List B) → keep p (flatMap f xs) ≡ flatMap (λ x. keep p (f x)) xs
-  unfolding keep flatMap
-  keep-flat f [] = refl
-  keep-flat f (x ∷ xs) = keep-append (f x) (flatMap f xs) ∙ ap (λ l. keep p (f x) ++ l) (keep-flat f xs)
-
-pub map-append : {A B : Type 0} (f : A → B) (xs ys : List A) → map f (xs ++ ys) ≡ map f xs ++ map f ys
-map-append f [] ys = refl
-map-append f (x ∷ xs) ys = ap (λ l. f x ∷ l) (map-append f xs ys)
-
-pub map-flat : {A B C : Type 0} (f : B → C) (h : A → List B) (xs : List A) → map f (flatMap h xs) ≡ flatMap (λ x. map f (h x)) xs
-unfolding flatMap
-map-flat f h [] = refl
-map-flat f h (x ∷ xs) = map-append f (h x) (flatMap h xs) ∙ ap (λ l. map f (h x) ++ l) (map-flat f h xs)
-
-pub map-map : {A B C : Type 0} (f : B → C) (h : A → B) (xs : List A) → map f (map h xs) ≡ map (λ x. f (h x)) xs
-map-map f h [] = refl
-map-map f h (x ∷ xs) = ap (λ l. f (h x) ∷ l) (map-map f h xs)
-
-flat-none : {A B : Type 0} (xs : List A) → _≡_ {A = List B} (flatMap (λ x. []) xs) []
-unfolding flatMap
-flat-none [] = refl
-flat-none (x ∷ xs) = flat-none xs
-
-map-keep : {A B : Type 0} (f : A → B) (p : A → Bool) (q : B → Bool) → ((x : A) → q (f x) ≡ p x) → (xs : List A) → map f (keep p xs) ≡ keep q (map f xs)
-unfolding keep
-map-keep f p q h [] = refl
-map-keep f p q h (x ∷ xs) = go (p x) (h x) (map-keep f p q h xs)
-  where
-    go : (b : Bool) → q (f x) ≡ b → map f (keep p xs) ≡ keep q (map f xs) → map f (cond b (x ∷ []) [] ++ keep p xs) ≡ cond (q (f x)) (f x ∷ []) [] ++ keep q (map f xs)
-    go true e ih = rw e (ap (λ l. f x ∷ l) ih)
-    go false e ih = rw e ih
 
 -- ---- keys and lists
 module _ (nb : ℕ → ℕ → Bool) (lab : ℕ → List ℕ) (t : ℕ) where
@@ -89,7 +49,7 @@ module _ (nb : ℕ → ℕ → Bool) (lab : ℕ → List ℕ) (t : ℕ) where
       short h u = sym (keyed-short nb lab t labels (key ++ u ∷ []) (keep (nb u) list) (let m = keep-most (nb u) list in omega arith))
 
       go : Dec (length list ≤ t) → keyedFrom nb lab t (s ∷ labels) key list ≡ flatMap on (lab s)
-      go (yes h) = keyed-short nb lab t (s ∷ labels) key list h ∙ sym (flat-none (lab s)) ∙ ap (λ f. flatMap f (lab s)) (fun-ext (λ u. short h u))
+      go (yes h) = keyed-short nb lab t (s ∷ labels) key list h ∙ sym (flat-nil (lab s)) ∙ ap (λ f. flatMap f (lab s)) (fun-ext (λ u. short h u))
       go (no h) = keyed-on nb lab t s labels key list (omega arith)
 
   pub keyed-all : (labels key list : List ℕ) → keyedFrom nb lab t labels key list ≡ keep long (map (onward key list) (choices (map lab labels)))
@@ -97,7 +57,7 @@ module _ (nb : ℕ → ℕ → Bool) (lab : ℕ → List ℕ) (t : ℕ) where
   keyed-all [] key list = here key list ∙ ap (λ x. cond (long x) (x ∷ []) [] ++ []) same
     where
       same : record { key = key; list = list } ≡ onward key list []
-      same = ap (λ k. record { key = k; list = list }) (sym (append-nil key)) ∙ ap (λ l. record { key = key ++ []; list = l }) (sym (keep-all list))
+      same = ap (λ k. record { key = k; list = list }) (sym (append-nil key)) ∙ ap (λ l. record { key = key ++ []; list = l }) (sym (keep-whole (λ v. true) list (λ v h. refl)))
   keyed-all (s ∷ labels) key list = keyed-flat s labels key list ∙ sym (whole (λ k l. keyed-all labels k l))
     where
       on : ℕ → List Keyed
@@ -136,7 +96,7 @@ groups-of g d c =
     let l = labelled g (d .label) in
     sym
     (ap (map (toGroup g c)) (keyed-all nb (labelled g) 0 (labelsOf d) [] l)
-    ∙ map-keep (toGroup g c) (long nb (labelled g) 0) (λ x. not (eqb (length (x .entries)) 0)) (λ x. filled (λ v. record { node = v; directions = directionsOf g (x .key) v }) (x .list)) (map (onward nb (labelled g) 0 [] l) keys)
+    ∙ keep-mapped (toGroup g c) (long nb (labelled g) 0) (λ x. not (eqb (length (x .entries)) 0)) (λ x. filled (λ v. record { node = v; directions = directionsOf g (x .key) v }) (x .list)) (map (onward nb (labelled g) 0 [] l) keys)
     ∙ ap (keep (λ x. not (eqb (length (x .entries)) 0))) (map-map (toGroup g c) (onward nb (labelled g) 0 [] l) keys))
 
 -- ---- no list above N

@@ -2,21 +2,23 @@
 use native.Mathlib.Omega.{arith}
 use native.Mathlib.Decide.{decLe}
 use mathlib.Core.Path.{_≡_, refl, sym, ap, _∙_}
-use mathlib.Core.Bool.{Bool, true, false, not, _&&_, _||_, true≢false}
-use mathlib.Core.List.{List, [], _∷_, _++_, map, flatMap}
-use Prim.Native.Nat.{ℕ, zero, suc, _+_, _-_, _*_, _≤_, _<_}
+use mathlib.Core.Bool.{true, false, not, _&&_, _||_, true≢false}
+use mathlib.Core.List.{List, [], _∷_, _++_, map, flatMap, map-append, map-map}
+use Prim.Native.Nat.{ℕ, zero, suc, _+_, _-_, _≤_, _<_}
 use lib.Dec.{eqb, ltb}
 use lib.ListN.{length, length-map, length-append}
 use borrow.Author.Tests.{le-ltb, lt-ltb, eq-eqb, ne-eqb, ltb-true}
-use Rattle.rules.specs.Lists.{range, allFrom, all, sum, Strict}
-use Rattle.rules.specs.Store.{nodeCount, edgeCount, constraintCount, edgesAt, constraintsAt, nodePart, edgePart, constraintPart, nodesIn, edgesIn, constraintsIn, constraintAt, fromAt, toAt}
-use Rattle.rules.specs.Store.{headerRight, recordsRight, nodesRight, edgesRight, edgeRight, edgeAlone, edgeBefore, constraintsRight, constraintRight, constraintAlone, alike}
+use Rattle.rules.specs.Lists.{range, allFrom, all, sum}
+use Rattle.laws.specs.Strict.{Strict}
+use Rattle.rules.specs.Store.{nodeCount, nodePart, edgePart, constraintPart, edgesIn, constraintsIn, constraintAt, fromAt, toAt, headerRight, recordsRight, nodesRight, edgesRight, edgeRight, edgeAlone, edgeBefore, constraintsRight, constraintRight, constraintAlone, alike, mostGroups, mostEntries, nodesIn}
 use Rattle.rules.specs.Graph.{Graph, graphOf, storeGraph, neighbours, labelled}
-use Rattle.rules.specs.Index.{satisfies, groupsOf, indexOf, entryTotal, storeIndex, exceeds, tooMany, directionsOf}
+use Rattle.rules.specs.Index.{tooLarge, someExceeds, satisfies, groupsOf, indexOf, entryTotal, storeIndex, exceeds, tooMany, directionsOf}
 use Rattle.rules.specs.declared.Constraint.{Constraint}
 use Rattle.rules.specs.declared.Entry.{Entry}
 use Rattle.laws.specs.Cases.{first-holds, second-holds}
 use Rattle.laws.specs.Header.{header-limits, header-ends}
+use Rattle.laws.specs.Each.{all-each}
+use Rattle.laws.specs.Parts.{nodes-in, edges-in, constraints-in}
 use Rattle.build_edges.specs.Packed.{EdgesBelow, forwardWords, wordIn, labelledIn}
 use Rattle.build_edges.specs.Sound.{joinedSet, Sound}
 use Rattle.build_neighbours.specs.Left.{labelsLeft}
@@ -26,20 +28,9 @@ use Rattle.build_keys.specs.Pass.{aboveFor, keyedBy, Right, nothing, pas
 use Rattle.build_groups.specs.declared.Purpose.{Purpose}
 use Rattle.build_groups.specs.declared.Progress.{Progress}
 use Rattle.build_edges.proofs.Edges.{less-word, words-strict}
-use Rattle.build_keys.proofs.Groups.{keyedIn, toGroup, groups-of, satisfies-keyed, map-append, map-map}
+use Rattle.build_keys.proofs.Groups.{keyedIn, toGroup, groups-of, satisfies-keyed}
 use Rattle.build_keys.proofs.Graphs.{graph-joined, graph-labelled, labels-of}
 use Rattle.build_keys.proofs.Items.{Item, item, listIn, total, emitItems, itemsFrom, visited-items, groupFor, count-fits, count-over}
-use Rattle.build_keys.proofs.Whole.{length-part}
-
--- what holds at every number holds at one
-pub all-at : (p : ℕ → Bool) (k n i : ℕ) → allFrom p k n ≡ true → k ≤ i → i < k + n → p i ≡ true
-unfolding allFrom
-all-at p k zero i h a b = absurd (omega arith)
-all-at p k (suc n) i h a b = go (decLe i k) (all-at p (k + 1) n i)
-  where
-    go : Dec (i ≤ k) → (allFrom p (k + 1) n ≡ true → k + 1 ≤ i → i < k + 1 + n → p i ≡ true) → p i ≡ true
-    go (yes q) ih = let e : i ≡ k = omega arith in rw e (first-holds (p k) (allFrom p (k + 1) n) h)
-    go (no q) ih = ih (second-holds (p k) (allFrom p (k + 1) n) h) (omega arith) (omega arith)
 
 sum-none : (a b : ℕ) → eqb (a + b) 0 ≡ (eqb a 0 && eqb b 0)
 sum-none zero b = let e : zero + b ≡ b = omega arith in ap (λ n. eqb n 0) e
@@ -47,29 +38,11 @@ sum-none (suc a) b = ne-eqb (suc a + b) 0 (λ e. omega arith) ∙ sym (ap (λ t.
 
 -- ---- a store whose header and records are right
 module _ (s : List ℕ) (header : headerRight s ≡ true) where
-  pub node-number : nodesIn (nodePart s) ≡ nodeCount s
-  node-number =
-      let e = header-ends s header in
-      let l : length (nodePart s) ≡ nodeCount s * 8 = length-part s 48 (nodeCount s * 8) (omega arith) in
-      omega arith
-
-  edge-number : edgesIn (edgePart s) ≡ edgeCount s
-  edge-number =
-      let e = header-ends s header in
-      let l : length (edgePart s) ≡ edgeCount s * 8 = length-part s (edgesAt s) (edgeCount s * 8) (omega arith) in
-      omega arith
-
-  constraint-number : constraintsIn (constraintPart s) ≡ constraintCount s
-  constraint-number =
-      let e = header-ends s header in
-      let l : length (constraintPart s) ≡ constraintCount s * 12 = length-part s (constraintsAt s) (constraintCount s * 12) (omega arith) in
-      omega arith
-
-  module _ (records : recordsRight s ≡ true) where
+  module _ (records : recordsRight (nodePart s) (edgePart s) ≡ true) where
     each-edge : (i : ℕ) → i < edgesIn (edgePart s) → edgeRight (nodeCount s) (edgePart s) i ≡ true
     unfolding recordsRight edgesRight
     each-edge i h =
-        all-at (edgeRight (nodeCount s) (edgePart s)) 0 (edgesIn (edgePart s)) i (second-holds (nodesRight (nodePart s)) (edgesRight (nodeCount s) (edgePart s)) records) (omega arith) (omega arith)
+        all-each (edgeRight (nodeCount s) (edgePart s)) 0 (edgesIn (edgePart s)) (rw (nodes-in s header) at (second-holds (nodesRight (nodePart s)) (edgesRight (nodesIn (nodePart s)) (edgePart s)) records)) i (omega arith) (omega arith)
 
     pub both-ends : (i : ℕ) → i < edgesIn (edgePart s) → (fromAt (edgePart s) i < nodeCount s) × (toAt (edgePart s) i < nodeCount s)
     unfolding edgeRight edgeAlone
@@ -104,9 +77,9 @@ module _ (s : List ℕ) (header : headerRight s ≡ true) where
         let e = header-ends s header in
         record {
           long = omega arith;
-          nodes = omega (arith, node-number, l .nodes);
-          edges = omega (arith, edge-number, l .edges);
-          constraints = omega (arith, constraint-number, l .constraints);
+          nodes = omega (arith, nodes-in s header, l .nodes);
+          edges = omega (arith, edges-in s header, l .edges);
+          constraints = omega (arith, constraints-in s header, l .constraints);
           below = ends-below;
           ascends = edges-ascend;
         }
@@ -180,7 +153,7 @@ module _ {s : List ℕ} (right : Right s) where
   unfolding constraintsRight constraintRight
   each-constraint c h =
       first-holds (constraintAlone (constraintAt (constraintPart s) c)) (allFrom (λ d. not (alike (constraintAt (constraintPart s) d) (constraintAt (constraintPart s) c))) 0 c)
-      (all-at (constraintRight (constraintPart s)) 0 (constraintsIn (constraintPart s)) c (right .constraints) (omega arith) (omega arith))
+      (all-each (constraintRight (constraintPart s)) 0 (constraintsIn (constraintPart s)) (right .constraints) c (omega arith) (omega arith))
 
   pub right-sound : Sound s
   right-sound = sound s (right .header) (right .records)
@@ -199,7 +172,7 @@ module _ {s : List ℕ} (right : Right s) where
         items-groups task (nodePart s) (edgePart s) (right-sound .below) (forwardWords (edgePart s)) store (constraintPart s) each-constraint z 0 (constraintsIn (constraintPart s)) (omega arith)
 
     pub exceeds-items : (task .above ≡ 0 → ⊥) → exceeds s ≡ not (eqb (length itemsOf) 0)
-    unfolding exceeds storeGraph itemsOf
+    unfolding exceeds storeGraph itemsOf someExceeds
     exceeds-items z =
         ap not (items-none task (nodePart s) (edgePart s) (right-sound .below) (forwardWords (edgePart s)) store (constraintPart s) each-constraint z 0 (constraintsIn (constraintPart s)) (omega arith))
 
@@ -248,7 +221,7 @@ exceeds-told {s} right r room room′ e = go (decLe (length xs) 0)
 
 pub count-told : {s : List ℕ} → Right s → (r : Progress) (room room′ : List ℕ) → outputOf r room′ ≡ passed countTask s s room
     → (r .stopped ≡ tooMany s) × (r .stopped ≡ false → (r .groups ≡ length (storeIndex s)) × (r .entries ≡ entryTotal (storeIndex s)))
-unfolding tooMany
+unfolding tooMany tooLarge
 count-told {s} right r room room′ e = go (decLe (length xs) 262144) (decLe (total xs) 1048576)
   where
     xs : List Item
@@ -266,20 +239,20 @@ count-told {s} right r room room′ e = go (decLe (length xs) 262144) (decLe (to
     m : entryTotal (storeIndex s) ≡ total xs
     m = index-total right countTask s refl
 
-    over : ((0 + length xs ≤ 262144) → (0 + total xs ≤ 1048576) → ⊥) → (ltb 262144 (length (storeIndex s)) || ltb 1048576 (entryTotal (storeIndex s))) ≡ true
-        → (r .stopped ≡ (ltb 262144 (length (storeIndex s)) || ltb 1048576 (entryTotal (storeIndex s)))) × (r .stopped ≡ false → (r .groups ≡ length (storeIndex s)) × (r .entries ≡ entryTotal (storeIndex s)))
+    over : ((0 + length xs ≤ 262144) → (0 + total xs ≤ 1048576) → ⊥) → (ltb mostGroups (length (storeIndex s)) || ltb mostEntries (entryTotal (storeIndex s))) ≡ true
+        → (r .stopped ≡ (ltb mostGroups (length (storeIndex s)) || ltb mostEntries (entryTotal (storeIndex s)))) × (r .stopped ≡ false → (r .groups ≡ length (storeIndex s)) × (r .entries ≡ entryTotal (storeIndex s)))
     over f q =
         let st : r .stopped ≡ true = ap (λ x. x .tally .stopped) e′ ∙ count-over countTask words s refl 0 0 room xs (omega arith) (omega arith) f in
         (st ∙ sym q, λ z. absurd (true≢false (sym st ∙ z)))
 
     go : Dec (length xs ≤ 262144) → Dec (total xs ≤ 1048576)
-        → (r .stopped ≡ (ltb 262144 (length (storeIndex s)) || ltb 1048576 (entryTotal (storeIndex s)))) × (r .stopped ≡ false → (r .groups ≡ length (storeIndex s)) × (r .entries ≡ entryTotal (storeIndex s)))
+        → (r .stopped ≡ (ltb mostGroups (length (storeIndex s)) || ltb mostEntries (entryTotal (storeIndex s)))) × (r .stopped ≡ false → (r .groups ≡ length (storeIndex s)) × (r .entries ≡ entryTotal (storeIndex s)))
     go (yes h) (yes k) =
         let f = e′ ∙ count-fits countTask words s refl 0 0 room xs (omega arith) (omega arith) in
         let g : r .groups ≡ 0 + length xs = ap (λ x. x .tally .groups) f in
         let t : r .entries ≡ 0 + total xs = ap (λ x. x .tally .entries) f in (
-          ap (λ x. x .tally .stopped) f ∙ sym (rw (le-ltb 262144 (length (storeIndex s)) (omega (arith, n)), le-ltb 1048576 (entryTotal (storeIndex s)) (omega (arith, m)))),
+          ap (λ x. x .tally .stopped) f ∙ sym (rw (le-ltb mostGroups (length (storeIndex s)) (omega (arith, n)), le-ltb mostEntries (entryTotal (storeIndex s)) (omega (arith, m)))),
           λ z. (omega (arith, n), omega (arith, m)),
         )
-    go (yes h) (no k) = over (λ a b. k (omega arith)) (rw (le-ltb 262144 (length (storeIndex s)) (omega (arith, n)), lt-ltb 1048576 (entryTotal (storeIndex s)) (omega (arith, m))))
-    go (no h) k = over (λ a b. h (omega arith)) (rw (lt-ltb 262144 (length (storeIndex s)) (omega (arith, n))))
+    go (yes h) (no k) = over (λ a b. k (omega arith)) (rw (le-ltb mostGroups (length (storeIndex s)) (omega (arith, n)), lt-ltb mostEntries (entryTotal (storeIndex s)) (omega (arith, m))))
+    go (no h) k = over (λ a b. h (omega arith)) (rw (lt-ltb mostGroups (length (storeIndex s)) (omega (arith, n))))

@@ -3,13 +3,14 @@ use native.Mathlib.Omega.{arith}
 use native.Mathlib.Decide.{decLe}
 use native.Mathlib.Nat.{add-zero}
 use mathlib.Core.Path.{_≡_, refl, sym, ap, _∙_}
-use mathlib.Core.Bool.{Bool, true, false, cond, _&&_}
+use mathlib.Core.Bool.{Bool, true, false, cond, and-false}
 use mathlib.Core.List.{List, [], _∷_, _++_, map, flatMap}
 use Prim.Native.Nat.{ℕ, zero, suc, _+_, _*_, _≤_, _<_}
 use lib.Dec.{leb, ltb}
 use lib.ListN.{length, length-map, length-append}
 use borrow.Author.Tests.{le-leb, lt-leb, le-ltb, lt-ltb, leb-true}
-use Rattle.rules.specs.Lists.{range, foldFrom, padded, all}
+use Rattle.rules.specs.Lists.{range, padded, all}
+use Rattle.laws.specs.Loops.{foldFrom}
 use Rattle.rules.specs.Store.{constraintsIn, constraintAt}
 use Rattle.rules.specs.Words.{u32Bytes, encoded}
 use Rattle.rules.specs.Graph.{Graph}
@@ -26,10 +27,6 @@ use Rattle.build_groups.specs.declared.Progress.{Progress}
 use Rattle.build_groups.proofs.Records.{length-records}
 use Rattle.build_keys.proofs.Groups.{toGroup}
 use Rattle.build_groups.proofs.Emitting.{emit-stopped, emit-over, emit-count}
-
-and-none : (a : Bool) → (a && false) ≡ false
-and-none true = refl
-and-none false = refl
 
 -- a constraint's number with one of its keys and its list
 pub record Item : Type 0 where
@@ -105,7 +102,7 @@ module _ (task : Purpose) (words store : List ℕ) where
 
   outside-entries : (t : Progress) (n : ℕ) → task .entries < t .entries + n → within task t n ≡ false
   unfolding within
-  outside-entries t n e = rw (lt-leb (t .entries + n) (task .entries) e) (and-none (ltb (t .groups) (task .groups)))
+  outside-entries t n e = rw (lt-leb (t .entries + n) (task .entries) e) (and-false (ltb (t .groups) (task .groups)))
 
   -- counting, where all are within the bounds
   module _ (mode : task .mode ≡ 0) where
@@ -167,7 +164,7 @@ short x = leb (length (x .keyed .key)) 3
 module _ {g : Graph} {words : List ℕ} (told : Told g words) where
   bits-none : (v : ℕ) → bitsOf words noId v ≡ 0
   unfolding bitsOf wordIn
-  bits-none v = rw (and-none (ltb v 65536))
+  bits-none v = rw (and-false (ltb v 65536))
 
   one-id : (u : ℕ) (ids : List ℕ) (v : ℕ) (n : ℕ) → dirsOf words ids v ≡ n → dirsOf words (u ∷ ids) v ≡ cond (g .edge u v) 1 0 + cond (g .edge v u) 2 0 + 4 * n
   unfolding dirsOf bitsOf

@@ -10,12 +10,12 @@ use borrow.Author.Tests.{eq-eqb, ne-eqb}
 use Rattle.rules.specs.Lists.{range}
 use Rattle.rules.specs.Store.{nodesIn}
 use Rattle.rules.specs.declared.Constraint.{Constraint}
-use Rattle.laws.specs.Keeping.{keep-most}
+use Rattle.laws.specs.Keep.{keep-most}
 use Rattle.build_edges.specs.Packed.{hasLabel, labelledIn}
 use Rattle.build_neighbours.specs.Left.{labelsLeft}
 use Rattle.build_keys.specs.Pass.{aboveFor, taskFor}
 use Rattle.build_groups.specs.declared.Purpose.{Purpose}
-use Rattle.build_edges.proofs.Ranges.{length-range}
+use Rattle.laws.specs.Range.{length-range}
 
 -- the task of a constraint
 module _ (task : Purpose) (d : Constraint) where

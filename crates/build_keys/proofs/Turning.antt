@@ -4,17 +4,17 @@ use native.Mathlib.Decide.{decLe}
 use mathlib.Core.Path.{_≡_, refl, sym, ap, _∙_}
 use mathlib.Core.Bool.{Bool, true, true≢false, false≢true}
 use mathlib.Core.List.{List, [], _∷_, _++_, flatMap}
-use Prim.Native.Nat.{ℕ, zero, suc, _+_, _-_, _*_, _/_, _≤_, _<_}
+use Prim.Native.Nat.{ℕ, suc, _+_, _-_, _*_, _/_, _≤_, _<_}
 use lib.Dec.{leb}
 use lib.ListN.{length, take, getD}
 use lib.Seq.{slice}
 use borrow.Author.Tests.{le-leb, lt-leb, ne-eqb}
 use Rattle.rules.specs.Words.{part}
-use Rattle.rules.specs.Lists.{has, keep, From}
+use Rattle.rules.specs.Lists.{has, keep}
+use Rattle.laws.specs.Strict.{From, below}
 use Rattle.laws.specs.Cases.{second-holds}
-use Rattle.laws.specs.Sets.{first-has, below}
-use Rattle.laws.specs.Members.{keep-yes, keep-no, has-keep, keep-from}
-use Rattle.laws.specs.Keeping.{later-has}
+use Rattle.laws.specs.Has.{first-has, later-has, has-get}
+use Rattle.laws.specs.Keep.{keep-yes, keep-no, has-keep, keep-from}
 use Rattle.laws.specs.Slices.{slice-none}
 use Rattle.laws.specs.PartMembers.{part-slice}
 use Rattle.laws.specs.Searching.{lower, before-lower, after-lower, lower-within, lower-order, range-of}
@@ -24,11 +24,6 @@ use Rattle.build_neighbours.specs.Pairs.{partTold, Paired}
 use Rattle.build_neighbours.specs.Side.{Listed}
 
 -- ---- members
-at-has : (l : List ℕ) (i : ℕ) → i < length l → has (getD l i 0) l ≡ true
-at-has [] i h = absurd (omega arith)
-at-has (y ∷ l) zero h = first-has y l
-at-has (y ∷ l) (suc i) h = later-has y (getD l i 0) l (at-has l i (omega arith))
-
 -- some of a list of nodes labelled l are one
 pub listed-keep : {nodes list : List ℕ} {l : ℕ} (p : ℕ → Bool) → Listed nodes l list → Listed nodes l (keep p list)
 listed-keep {nodes} {list} {l} p d = record {
@@ -110,7 +105,7 @@ module _ {nodes joined : List ℕ} {s : ℕ} {list words : List ℕ} (p : Paired
           go (no q) = let k = before-lower (u * 65536) words (p .ascends) i (omega arith) in absurd (omega arith)
 
       pub tried : has u (labelledIn nodes s) ≡ true
-      tried = rw v (p .from (getD words i 0) (at-has words i h))
+      tried = rw v (p .from (getD words i 0) (has-get words i h))
 
       pub passed : (x : ℕ) → has x (labelledIn nodes s) ≡ true → b ≤ x → x < u → keep (wordIn joined x) list ≡ []
       passed x m k l =

@@ -3,28 +3,13 @@ use mathlib.Core.Path.{_≡_, refl, sym, ap, _∙_, fun-ext}
 use mathlib.Core.Bool.{Bool, true, false, not, _&&_, _||_, or-true}
 use mathlib.Core.List.{List, [], _∷_, _++_}
 use Prim.Native.Nat.{ℕ}
-use lib.Dec.{eqb}
-use borrow.Author.Tests.{eqb-true}
 use Rattle.rules.specs.Lists.{all, any, keep, has}
-use Rattle.laws.specs.Chosen.{flat-same}
+use Rattle.laws.specs.Map.{flat-same}
+use Rattle.laws.specs.Keep.{keep-whole, keep-keep}
+use Rattle.laws.specs.Any.{any-member}
 use Rattle.build_neighbours.specs.Useful.{reaches}
 use Rattle.build_groups.specs.Keyed.{keyedFrom}
-use Rattle.build_neighbours.proofs.Twice.{keep-keep}
 use Rattle.build_keys.proofs.Groups.{keyed-flat}
-
-keep-all : (p : ℕ → Bool) (l : List ℕ) → ((v : ℕ) → p v ≡ true) → keep p l ≡ l
-unfolding keep
-keep-all p [] h = refl
-keep-all p (x ∷ l) h = rw (h x) (ap (λ m. x ∷ m) (keep-all p l h))
-
-any-has : (p : ℕ → Bool) (u : ℕ) (l : List ℕ) → has u l ≡ true → p u ≡ true → any p l ≡ true
-unfolding any has
-any-has p u [] h e = h
-any-has p u (x ∷ l) h e = go (eqb u x) refl h (any-has p u l)
-  where
-    go : (b : Bool) → eqb u x ≡ b → (b || has u l) ≡ true → (has u l ≡ true → p u ≡ true → any p l ≡ true) → (p x || any p l) ≡ true
-    go true q h ih = rw (sym (ap p (eqb-true u x q)) ∙ e)
-    go false q h ih = rw (ih h e) (or-true (p x))
 
 -- a test that is only asked where another holds
 and-given : (a b : Bool) → (a && (b || not a)) ≡ (b && a)
@@ -41,7 +26,7 @@ module _ (joined : ℕ → ℕ → Bool) (labelled : ℕ → List ℕ) (t : ℕ)
   kept-useful : (labels key list : List ℕ) (q : ℕ → Bool) → ((v : ℕ) → reaches joined labelled labels v ≡ true → q v ≡ true)
       → keyedFrom joined labelled t labels key (keep q list) ≡ keyedFrom joined labelled t labels key list
   unfolding reaches all
-  kept-useful [] key list q h = ap (keyedFrom joined labelled t [] key) (keep-all q list (λ v. h v refl))
+  kept-useful [] key list q h = ap (keyedFrom joined labelled t [] key) (keep-whole q list (λ v k. h v refl))
   kept-useful (s ∷ labels) key list q h =
       keyed-flat joined labelled t s labels key (keep q list)
       ∙ flat-same (λ u. keyedFrom joined labelled t labels (key ++ u ∷ []) (keep (joined u) (keep q list))) (λ u. keyedFrom joined labelled t labels (key ++ u ∷ []) (keep (joined u) list)) (labelled s)
@@ -49,7 +34,7 @@ module _ (joined : ℕ → ℕ → Bool) (labelled : ℕ → List ℕ) (t : ℕ)
       ∙ sym (keyed-flat joined labelled t s labels key list)
     where
       still : (u : ℕ) → has u (labelled s) ≡ true → (v : ℕ) (b : Bool) → joined u v ≡ b → all (λ s. any (λ u. joined u v) (labelled s)) labels ≡ true → (q v || not b) ≡ true
-      still u k v true e r = ap (λ b. b || false) (h v (rw (any-has (λ u. joined u v) u (labelled s) k e) r))
+      still u k v true e r = ap (λ b. b || false) (h v (rw (any-member (λ u. joined u v) u (labelled s) k e) r))
       still u k v false e r = or-true (q v)
 
   pub keyed-useful : (labels key list : List ℕ) → keyedFrom joined labelled t labels key list ≡ keyedFrom joined labelled t labels key (keep (reaches joined labelled labels) list)

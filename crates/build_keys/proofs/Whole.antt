@@ -18,7 +18,8 @@ use Rattle.build_groups.specs.Emit.{groupRecord, listRecords, outputOf, within,
 use Rattle.build_groups.specs.declared.Purpose.{Purpose}
 use Rattle.build_groups.specs.declared.Progress.{Progress}
 use Rattle.build_groups.proofs.Records.{length-records}
-use Rattle.build_groups.proofs.Comparing.{same-append}
+use Rattle.laws.specs.Same.{same-append}
+use Rattle.laws.specs.Parts.{part-add}
 use Rattle.build_groups.proofs.Emitting.{emit-write, emit-compare}
 use Rattle.build_keys.proofs.Items.{Item, listIn, idsIn, short, total, emitItems, items-stopped, inside, Told, groupFor, group-bytes, entry-bytes, length-ids, length-groups, length-entries}
 
@@ -69,13 +70,6 @@ over-four s i a more j b rest apart fits =
     ∙ over-over (over s i (a ++ more)) j b (omega arith) rest
 
 -- ---- parts
-pub part-add : (s : List ℕ) (a m k : ℕ) → part s a (a + (m + k)) ≡ part s a (a + m) ++ part s (a + m) (a + m + k)
-part-add s a m k =
-    let x : a + (m + k) - a ≡ m + k = omega arith in
-    let y : a + m - a ≡ m = omega arith in
-    let z : a + m + k - (a + m) ≡ k = omega arith in
-    rw (x, y, z, ← drop-drop) (take-add m k (drop a s))
-
 pub length-part : (s : List ℕ) (a m : ℕ) → a + m ≤ length s → length (part s a (a + m)) ≡ m
 length-part s a m h = simp (length-take, length-drop) (omega arith)
 

@@ -5,7 +5,8 @@ use mathlib.Core.Bool.{cond, true, false}
 use mathlib.Core.List.{List, []}
 use lib.Dec.{eqb}
 use lib.ListN.{length}
-use Rattle.rules.specs.Lists.{foldFrom, setOf}
+use Rattle.rules.specs.Lists.{setOf}
+use Rattle.laws.specs.Loops.{foldFrom}
 use Rattle.rules.specs.Store.{constraintsIn, constraintAt, nodePart, edgePart, constraintPart, headerRight, recordsRight, constraintsRight}
 use Rattle.rules.specs.declared.Constraint.{Constraint}
 use Rattle.build_edges.specs.Packed.{forwardWords, wordIn, labelledIn}
@@ -51,7 +52,7 @@ passed task s store room =
 -- a store or draft without refusal 1, 2 or 3
 pub record Right (s : List ℕ) : Type 0 where
   pub header : headerRight s ≡ true
-  pub records : recordsRight s ≡ true
+  pub records : recordsRight (nodePart s) (edgePart s) ≡ true
   pub constraints : constraintsRight (constraintPart s) ≡ true
 
 -- its edges, as words, each both ways round, are at hand too

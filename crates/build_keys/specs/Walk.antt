@@ -37,7 +37,7 @@ chosen key at = take at (idsOf key)
 abbrev pub keyedOf : Purpose → List ℕ → List ℕ → Labels → Key → ℕ → List ℕ → List Keyed
 keyedOf task nodes joined left key at list = keyedFrom (wordIn joined) (labelledIn nodes) (task .above) (labelsIn left) (chosen key at) list
 
--- the rooms for lists (one, two) and for what is tried (a, b) are long enough, and the ids that are not chosen are not used
+-- the rooms for lists (one, two) and for what is tried (a, b) are long enough, as build_longlist asks of its own rooms, and the ids that are not chosen are not used
 pub record WalkFit (task : Purpose) (nodes joined starts edges begins : List ℕ) (l : ℕ) (left : Labels) (key : Key) (at : ℕ) (list one two a b store room : List ℕ) : Type 0 where
   pub placed : Placed task (length store) (length room)
   pub held : Held nodes joined starts

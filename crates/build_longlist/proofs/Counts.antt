@@ -2,23 +2,24 @@
 use native.Mathlib.Omega.{arith}
 use native.Mathlib.Decide.{ℕ-discrete}
 use mathlib.Core.Path.{_≡_, refl, sym, ap, _∙_, fun-ext}
-use mathlib.Core.Bool.{Bool, true, false, _||_, or-false, or-true, false≢true}
+use mathlib.Core.Bool.{Bool, true, false, or-false, false≢true}
 use mathlib.Core.List.{List, [], _∷_}
 use Prim.Native.Nat.{ℕ, suc, _+_, _%_, _≤_, _<_}
 use lib.Dec.{eqb, ltb}
 use lib.ListN.{length, drop, getD, set, length-set, drop-of-length-le}
 use lib.Seq.{getD-set-same, getD-set-other}
 use borrow.Author.Tests.{lt-ltb, le-ltb, eq-eqb, ne-eqb}
-use Rattle.rules.specs.Lists.{any, keep, has, From, Strict}
-use Rattle.rules.specs.Store.{nodesIn}
-use Rattle.laws.specs.Keeping.{keep-most, later-has}
-use Rattle.laws.specs.Members.{keep-yes, keep-no}
-use Rattle.laws.specs.PartMembers.{has-get}
+use Rattle.rules.specs.Lists.{keep, has}
+use Rattle.laws.specs.Strict.{From, Strict}
+use Rattle.rules.specs.Store.{nodesIn, mostNodes}
+use Rattle.laws.specs.Keep.{keep-most, keep-yes, keep-no}
+use Rattle.laws.specs.Has.{has-get}
 use Rattle.laws.specs.Searching.{stands-has}
-use Rattle.laws.specs.Sets.{first-has}
 use Rattle.laws.specs.Slices.{drop-next}
+use Rattle.laws.specs.Any.{any-member, any-none}
 use Rattle.build_edges.specs.Packed.{wordIn, labelledIn}
-use Rattle.build_edges.specs.Near.{wordsOf, lows, isLabelled, Joined}
+use Rattle.build_edges.specs.Near.{wordsOf, isLabelled, Joined}
+use Rattle.laws.specs.Lows.{lows}
 use Rattle.build_edges.proofs.Nearby.{either-side, labelled-has}
 use Rattle.build_neighbours.proofs.Pairing.{labelled-below}
 use Rattle.build_longlist.specs.Counting.{longLast, times, Inside, Cleared, Low, Spare, Added, Above}
@@ -60,21 +61,6 @@ met {joined} j v u h rest = go (wordIn joined v u) refl
         let all = times-near joined v u (j .strict) h in
         let same : length (keep (wordIn joined u) (v ∷ rest)) ≡ length (keep (wordIn joined u) rest) = ap length (keep-no (wordIn joined u) v rest (j .both u v ∙ e)) in
         omega arith
-
--- ---- some of a list
-any-one : (p : ℕ → Bool) (z : ℕ) (l : List ℕ) → has z l ≡ true → p z ≡ true → any p l ≡ true
-unfolding any has
-any-one p z [] m q = absurd (false≢true m)
-any-one p z (x ∷ l) m q = go (ℕ-discrete z x) (any-one p z l)
-  where
-    go : Dec (z ≡ x) → (has z l ≡ true → p z ≡ true → any p l ≡ true) → (p x || any p l) ≡ true
-    go (yes e) ih = rw (← e, q)
-    go (no n) ih = rw (ih (rw (ne-eqb z x n) at m) q) (or-true (p x))
-
-any-none : (p : ℕ → Bool) (l : List ℕ) → ((z : ℕ) → has z l ≡ true → p z ≡ false) → any p l ≡ false
-unfolding any
-any-none p [] f = refl
-any-none p (x ∷ l) f = rw (f x (first-has x l)) (any-none p l (λ z m. f z (later-has x z l m)))
 
 -- ---- the loop of `clear`
 pub record Clearing (first counts : List ℕ) (i : ℕ) : Type 0 where
@@ -185,7 +171,7 @@ pub record Counting (nodes joined : List ℕ) (s t : ℕ) (list counts : List �
 node-below : (nodes : List ℕ) (s u : ℕ) → isLabelled nodes s u ≡ true → u < nodesIn nodes
 node-below nodes s u l = labelled-below nodes s u (labelled-has nodes s u ∙ l)
 
-pub count-start : {nodes joined : List ℕ} {s t : ℕ} {list counts : List ℕ} → Cleared counts → nodesIn nodes ≤ 65535 → Counting nodes joined s t list counts 0
+pub count-start : {nodes joined : List ℕ} {s t : ℕ} {list counts : List ℕ} → Cleared counts → nodesIn nodes ≤ mostNodes → Counting nodes joined s t list counts 0
 count-start {nodes} {joined} {s} {t} {list} {counts} c few = record {
   each = λ u h. let z = c .none u h in omega arith;
   low = record { low = λ u l. let k = node-below nodes s u l in let z = c .none u (omega arith) in omega arith };
@@ -214,10 +200,10 @@ module _ {nodes joined : List ℕ} {s t : ℕ} {list counts : List ℕ} {i : ℕ
     count-stop a =
         let x = step (a .node) (a .inside) in
         let y = a .above in
-        sym (any-one (λ u. ltb t (length (keep (wordIn joined u) list))) (a .node) (labelledIn nodes s) (labelled-has nodes s (a .node) ∙ a .labelled)
+        sym (any-member (λ u. ltb t (length (keep (wordIn joined u) list))) (a .node) (labelledIn nodes s) (labelled-has nodes s (a .node) ∙ a .labelled)
         (lt-ltb t (length (keep (wordIn joined (a .node)) list)) (omega arith)))
 
-pub count-done : {nodes joined : List ℕ} {s t : ℕ} {list counts : List ℕ} {i : ℕ} → Counting nodes joined s t list counts i → nodesIn nodes ≤ 65535 → length list ≤ i
+pub count-done : {nodes joined : List ℕ} {s t : ℕ} {list counts : List ℕ} {i : ℕ} → Counting nodes joined s t list counts i → nodesIn nodes ≤ mostNodes → length list ≤ i
     → false ≡ longLast nodes joined s t list
 unfolding longLast keep
 count-done {nodes} {joined} {s} {t} {list} {counts} {i} g few h = sym (any-none (λ u. ltb t (length (keep (wordIn joined u) list))) (labelledIn nodes s) few-of)

@@ -1,31 +1,32 @@
 -- Laws of lists longer than N: there is one exactly if a key has it, and what holds of a list holds of a longer one. Assumes nothing.
 use native.Mathlib.Omega.{arith}
 use native.Mathlib.Decide.{decLe}
-use mathlib.Core.Path.{_≡_, refl, sym, ap, _∙_, fun-ext}
-use mathlib.Core.Bool.{Bool, true, false, not, _&&_, _||_, true≢false, false≢true, or-true}
+use mathlib.Core.Path.{_≡_, refl, sym, ap, _∙_}
+use mathlib.Core.Bool.{Bool, true, false, not, _&&_, _||_, true≢false, false≢true}
 use mathlib.Core.List.{List, [], _∷_, _++_, flatMap}
 use Prim.Native.Nat.{ℕ, suc, _+_, _%_, _≤_, _<_}
 use lib.Dec.{eqb}
 use lib.ListN.{length, take, getD}
 use lib.Seq.{slice}
 use borrow.Author.Tests.{le-ltb, lt-ltb, ne-eqb, eqb-true}
-use Rattle.rules.specs.Lists.{all, any, keep, has, Strict}
+use Rattle.rules.specs.Lists.{all, any, keep, has}
+use Rattle.laws.specs.Strict.{Strict}
 use Rattle.rules.specs.Graph.{labelled}
-use Rattle.laws.specs.Keeping.{keep-most}
-use Rattle.laws.specs.Members.{keep-yes, keep-no, keep-from, has-keep}
+use Rattle.laws.specs.Keep.{keep-most, keep-yes, keep-no, keep-from, has-keep, keep-swap}
 use Rattle.laws.specs.Slices.{slice-next, slice-none}
 use Rattle.laws.specs.Cases.{first-holds, second-holds}
 use Rattle.laws.specs.Searching.{standsIn}
+use Rattle.laws.specs.Any.{any-more}
 use Rattle.build_edges.specs.Packed.{wordIn, labelledIn}
-use Rattle.build_edges.specs.Near.{wordsOf, lows}
+use Rattle.build_edges.specs.Near.{wordsOf}
+use Rattle.laws.specs.Lows.{lows}
 use Rattle.build_neighbours.specs.Left.{labelsIn}
 use Rattle.build_neighbours.specs.declared.Labels.{Labels}
 use Rattle.build_groups.specs.Keyed.{keyedFrom}
 use Rattle.build_keys.specs.Walk.{restOf}
 use Rattle.build_longlist.specs.Counting.{longLast}
 use Rattle.build_longlist.specs.Exceed.{longFrom, goesWith, Sifted, Rooms}
-use Rattle.build_edges.proofs.Nearby.{and-swap, either-side}
-use Rattle.build_neighbours.proofs.Twice.{keep-keep}
+use Rattle.build_edges.proofs.Nearby.{either-side}
 use Rattle.build_keys.proofs.Going.{labels-next, labels-none, keyed-short, keyed-here, keyed-on}
 use Rattle.build_longlist.proofs.Sifting.{high-none}
 
@@ -38,18 +39,6 @@ some-flat : {A B : Type 0} (f : A → List B) (p : A → Bool) → ((x : A) → 
 unfolding any flatMap
 some-flat f p h [] = refl
 some-flat f p h (x ∷ xs) = rw (h x, some-flat f p h xs) (sym (some-append (f x) (flatMap f xs)))
-
-any-more : {A : Type 0} (p q : A → Bool) → ((x : A) → p x ≡ true → q x ≡ true) → (xs : List A) → any p xs ≡ true → any q xs ≡ true
-unfolding any
-any-more p q f [] h = h
-any-more p q f (x ∷ xs) h = go (p x) refl h (any-more p q f xs)
-  where
-    go : (b : Bool) → p x ≡ b → (b || any p xs) ≡ true → (any p xs ≡ true → any q xs ≡ true) → (q x || any q xs) ≡ true
-    go true e h ih = rw (f x e)
-    go false e h ih = rw (ih h) (or-true (q x))
-
-keep-swap : (p q : ℕ → Bool) (l : List ℕ) → keep p (keep q l) ≡ keep q (keep p l)
-keep-swap p q l = keep-keep p q l ∙ ap (λ f. keep f l) (fun-ext (λ v. and-swap (q v) (p v))) ∙ sym (keep-keep q p l)
 
 module _ (joined : ℕ → ℕ → Bool) (labelled : ℕ → List ℕ) (t : ℕ) where
   -- ---- the keys with lists longer than t

@@ -9,7 +9,7 @@ use lib.ListN.{length}
 use Rattle.rules.specs.Lists.{all, anyFrom, range}
 use Rattle.rules.specs.Store.{nodesIn, constraintsIn, constraintAt, nodePart, edgePart, constraintPart, constraintAlone}
 use Rattle.rules.specs.Graph.{graphOf, storeGraph}
-use Rattle.rules.specs.Index.{satisfies, exceeds}
+use Rattle.rules.specs.Index.{someExceeds, satisfies, exceeds}
 use Rattle.rules.specs.declared.Constraint.{Constraint}
 use Rattle.build_edges.specs.Packed.{EdgesBelow, wordIn, labelledIn}
 use Rattle.build_edges.specs.Sound.{joinedSet}
@@ -95,7 +95,7 @@ any-not p q k (suc n) h = rw (h k (omega arith), any-not p q (k + 1) n (λ c j. 
 
 pub exceeds-told : {s joined nodes constraints : List ℕ} {r : Bool} → Right s → joined ≡ joinedSet (edgePart s) → nodes ≡ nodePart s → constraints ≡ constraintPart s
     → r ≡ exceedsIn nodes joined constraints → r ≡ exceeds s
-unfolding exceedsIn exceedsAt exceeds storeGraph
+unfolding exceedsIn exceedsAt exceeds storeGraph someExceeds
 exceeds-told {s} right ej en ec q =
     rw (ej, en, ec) at q
     ∙ any-not (λ c. exceedsBy (nodePart s) (joinedSet (edgePart s)) (constraintAt (constraintPart s) c)) (λ c. satisfies (graphOf (nodePart s) (edgePart s)) (constraintAt (constraintPart s) c)) 0

@@ -4,28 +4,23 @@ use native.Mathlib.Numerals.{add-one}
 use native.Mathlib.Decide.{decLe}
 use mathlib.Core.Path.{_≡_, refl, sym, ap, _∙_}
 use mathlib.Core.Bool.{Bool, true, false, _||_, or-assoc, or-false}
-use mathlib.Core.List.{List, [], _∷_, _++_}
+use mathlib.Core.List.{List, [], _∷_, _++_, map-append}
 use Prim.Native.Nat.{ℕ, _+_, _*_, _%_, _≤_, _<_}
 use lib.ListN.{length, take, drop, getD, set, length-set, length-take, drop-of-length-le}
 use lib.Seq.{length-take-le, take-append-le, take-at, take-suc-set, drop-set-lt}
 use borrow.Author.Tests.{le-leb, lt-leb, le-ltb}
 use Rattle.rules.specs.Lists.{any, keep, insert, sortOf}
-use Rattle.laws.specs.Keeping.{any-append}
-use Rattle.laws.specs.Members.{keep-yes, keep-no}
+use Rattle.laws.specs.Any.{any-append}
+use Rattle.laws.specs.Keep.{keep-yes, keep-no, keep-none}
 use Rattle.laws.specs.Sets.{length-sort}
 use Rattle.laws.specs.Slices.{drop-next}
+use Rattle.laws.specs.Cases.{or-swap}
 use Rattle.build_edges.specs.Packed.{wordIn, labelledIn}
-use Rattle.build_edges.specs.Near.{lows, Tried}
+use Rattle.laws.specs.Lows.{lows}
+use Rattle.build_edges.specs.Near.{Tried}
 use Rattle.build_longlist.specs.Exceed.{Sifted}
-use Rattle.build_keys.proofs.Groups.{map-append}
 
 -- ---- order does not matter
-or-swap : (a b c : Bool) → (a || (b || c)) ≡ (b || (a || c))
-or-swap true true c = refl
-or-swap true false c = refl
-or-swap false true c = refl
-or-swap false false c = refl
-
 any-insert : (p : ℕ → Bool) (x : ℕ) (l : List ℕ) → any p (insert x l) ≡ (p x || any p l)
 unfolding any insert
 any-insert p x [] = refl
@@ -56,11 +51,6 @@ any-kept p q h (x ∷ l) = go (q x) refl (any-kept p q h l)
     go false e ih = ap (any p) (keep-no q x l e) ∙ ih ∙ sym (ap (λ t. t || any p l) (h x e))
 
 -- ---- a node that is joined with one of a list is below 65,536
-keep-none : (p : ℕ → Bool) (l : List ℕ) → ((v : ℕ) → p v ≡ false) → keep p l ≡ []
-unfolding keep
-keep-none p [] h = refl
-keep-none p (x ∷ l) h = rw (h x) (keep-none p l h)
-
 pub high-none : (joined : List ℕ) (u : ℕ) (list : List ℕ) → 65536 ≤ u → keep (wordIn joined u) list ≡ []
 unfolding wordIn
 high-none joined u list h = keep-none (wordIn joined u) list (λ v. rw (le-ltb u 65536 h))

@@ -7,7 +7,8 @@ use lib.Dec.{eqb, ltb}
 use lib.ListN.{length, getD}
 use Rattle.rules.specs.Lists.{any, keep, has}
 use Rattle.build_edges.specs.Packed.{wordIn, labelledIn}
-use Rattle.build_edges.specs.Near.{lows, isLabelled}
+use Rattle.laws.specs.Lows.{lows}
+use Rattle.build_edges.specs.Near.{isLabelled}
 
 -- some node labelled s is joined with more than t nodes of a list
 unfoldable pub longLast : List ℕ → List ℕ → ℕ → ℕ → List ℕ → Bool

@@ -5,11 +5,13 @@ use mathlib.Core.Bool.{Bool, false, _&&_}
 use mathlib.Core.List.{List, [], _∷_}
 use lib.Dec.{ltb}
 use lib.ListN.{length}
-use Rattle.rules.specs.Lists.{any, all, keep, anyFrom, Strict}
-use Rattle.rules.specs.Store.{constraintsIn, constraintAt, nodesIn}
+use Rattle.rules.specs.Lists.{any, all, keep, anyFrom}
+use Rattle.laws.specs.Strict.{Strict}
+use Rattle.rules.specs.Store.{mostConstraints, mostNodes, constraintsIn, constraintAt, nodesIn}
 use Rattle.rules.specs.declared.Constraint.{Constraint}
 use Rattle.build_edges.specs.Packed.{wordIn, labelledIn}
-use Rattle.build_edges.specs.Near.{lows, Joined}
+use Rattle.laws.specs.Lows.{lows}
+use Rattle.build_edges.specs.Near.{Joined}
 use Rattle.build_neighbours.specs.Left.{labelsLeft}
 use Rattle.build_neighbours.specs.declared.Labels.{Labels}
 use Rattle.build_longlist.specs.Counting.{Inside}
@@ -40,9 +42,9 @@ exceedsIn nodes joined constraints = anyFrom (exceedsAt nodes joined constraints
 pub record Sifted (joined list : List ℕ) (t : ℕ) (ids words : List ℕ) : Type 0 where
   pub some : (p : ℕ → Bool) → ((u : ℕ) → length (keep (wordIn joined u) list) ≤ t → p u ≡ false) → any p (lows words) ≡ any p ids
 
--- the rooms for lists (one, two, three) and for the nodes that are tried (a, b, c) are long enough
+-- the rooms for lists (one, two, three) and for the nodes that are tried (a, b, c) are long enough; two of them as in the walk of build_keys, which has no third
 pub record Rooms (nodes joined : List ℕ) (left : Labels) (list one two three a b c : List ℕ) : Type 0 where
-  pub few : nodesIn nodes ≤ 65535
+  pub few : nodesIn nodes ≤ mostNodes
   pub both : Joined joined
   pub short : length list ≤ 65536
   pub ascends : Strict list
@@ -53,9 +55,9 @@ pub record Rooms (nodes joined : List ℕ) (left : Labels) (list one two three a
 
 -- the same for all constraints, with a room for the nodes labelled l
 pub record Ample (nodes joined constraints list one two three a b c : List ℕ) : Type 0 where
-  pub few : nodesIn nodes ≤ 65535
+  pub few : nodesIn nodes ≤ mostNodes
   pub both : Joined joined
-  pub limited : constraintsIn constraints ≤ 32
+  pub limited : constraintsIn constraints ≤ mostConstraints
   pub zero : 65536 ≤ length list
   pub first : (65536 ≤ length one) × (65536 ≤ length a)
   pub second : (65536 ≤ length two) × (65536 ≤ length b)

@@ -3,7 +3,7 @@ ghost use mathlib.Core.Path.{_≡_};
 ghost use mathlib.Core.Bool.{true, false};
 ghost use Prim.Native.Nat.{_≤_};
 ghost use lib.ListN.{length};
-ghost use Rattle.rules.specs.Store.{nodesIn};
+ghost use Rattle.rules.specs.Store.{mostNodes, nodesIn};
 ghost use Rattle.build_edges.specs.Near.{Joined};
 ghost use Rattle.build_longlist.specs.Counting.{longLast, Inside, Cleared, Low, Spare, Added, Above};
 
@@ -48,7 +48,7 @@ pub fn counts_exceed(
     list: &[u32],
     counts: &mut [u32],
 ) -> bool
-    requires { ⌜ ((65536 ≤ length (now counts)) × (nodesIn (now nodes) ≤ 65535)) × (Joined (now joined) × ((length (now list) ≤ 65536) × Inside (now list))) ⌝ }
+    requires { ⌜ ((65536 ≤ length (now counts)) × (nodesIn (now nodes) ≤ mostNodes)) × (Joined (now joined) × ((length (now list) ≤ 65536) × Inside (now list))) ⌝ }
     ensures { λ r. ⌜ r ≡ longLast (now (nodes .entry)) (now (joined .entry)) s most (now (list .entry)) ⌝ }
 {
     clear(counts);

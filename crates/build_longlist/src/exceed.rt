@@ -4,12 +4,14 @@ use build_neighbours::Labels;
 ghost use mathlib.Core.Path.{_≡_};
 ghost use Prim.Native.Nat.{_≤_, _<_};
 ghost use lib.ListN.{length, take};
-ghost use Rattle.rules.specs.Lists.{all, keep, Strict};
-ghost use Rattle.rules.specs.Store.{nodesIn, constraintsIn};
+ghost use Rattle.rules.specs.Lists.{all, keep};
+ghost use Rattle.laws.specs.Strict.{Strict};
+ghost use Rattle.rules.specs.Store.{mostNodes, nodesIn, constraintsIn};
 ghost use Rattle.rules.specs.Index.{exceeds};
 ghost use Rattle.laws.specs.Searching.{standsIn};
 ghost use Rattle.build_edges.specs.Packed.{wordIn, labelledIn};
-ghost use Rattle.build_edges.specs.Near.{lows, Joined};
+ghost use Rattle.laws.specs.Lows.{lows};
+ghost use Rattle.build_edges.specs.Near.{Joined};
 ghost use Rattle.build_neighbours.specs.Left.{labelsIn};
 ghost use Rattle.build_keys.specs.Pass.{AtHand};
 ghost use Rattle.build_longlist.specs.Exceed.{longFrom, goesWith, Sifted, Rooms, exceedsAt, exceedsIn, Ample};
@@ -116,7 +118,7 @@ fn sifted(
     out: &mut [u32],
     scratch: &mut [u32],
 ) -> usize
-    requires { ⌜ ((65536 ≤ length (now out)) × (65536 ≤ length (now scratch))) × ((nodesIn (now nodes) ≤ 65535) × (Joined (now joined) × ((length (now list) ≤ 65536) × Strict (now list)))) ⌝ }
+    requires { ⌜ ((65536 ≤ length (now out)) × (65536 ≤ length (now scratch))) × ((nodesIn (now nodes) ≤ mostNodes) × (Joined (now joined) × ((length (now list) ≤ 65536) × Strict (now list)))) ⌝ }
     ensures { λ r. ⌜ (r ≤ 65536) × Sifted (now (joined .entry)) (now (list .entry)) most (labelledIn (now (nodes .entry)) l) (take r (now (out .exit))) ⌝ }
 {
     let n = build_edges::tried(nodes, joined, list, l, out, scratch);

@@ -3,7 +3,7 @@ use native.Mathlib.Omega.{arith}
 use native.Mathlib.Numerals.{add-one}
 use native.Mathlib.Decide.{decLe, ℕ-discrete}
 use mathlib.Core.Path.{_≡_, refl, sym, ap, ap₂, _∙_}
-use mathlib.Core.Bool.{Bool, true, false, cond, _||_, true≢false, false≢true}
+use mathlib.Core.Bool.{Bool, true, false, cond, _||_, false≢true}
 use mathlib.Core.List.{List, [], _∷_, _++_, map, append-nil, append-assoc, map-map, map-id}
 use Prim.Native.Nat.{ℕ, zero, suc, _+_, _-_, _*_, _/_, _%_, _≤_, _<_}
 use lib.Dec.{eqb, leb}
@@ -12,14 +12,15 @@ use lib.Seq.{take-suc-set, drop-set-lt, drop-drop, drop-at, take-at, append-snoc
 use borrow.Rule.Slice.PartMut.{putMid}
 use borrow.Author.Tests.{le-leb, lt-leb, eq-eqb, ne-eqb, eqb-true}
 use Rattle.rules.specs.Words.{u16At}
-use Rattle.rules.specs.Lists.{has, insert, sortOf, setOf, From, Strict}
+use Rattle.rules.specs.Lists.{has, insert, sortOf, setOf}
+use Rattle.laws.specs.Strict.{From, Strict, below, drop-from, take-from}
 use Rattle.rules.specs.Store.{nodesIn, labelAt}
-use Rattle.laws.specs.Sets.{below, first-has, is-set, has-sort, length-sort}
-use Rattle.laws.specs.Members.{from-lower}
-use Rattle.laws.specs.Keeping.{later-has}
-use Rattle.laws.specs.PartMembers.{has-get}
+use Rattle.laws.specs.Has.{first-has, later-has, has-get}
+use Rattle.laws.specs.Sets.{is-set, length-sort}
 use Rattle.laws.specs.Slices.{drop-next}
 use Rattle.laws.specs.Searching.{lower, lower-within, before-lower, after-lower}
+use Rattle.laws.specs.Cases.{or-swap}
+use Rattle.laws.specs.Distinct.{Distinct, sort-strict}
 use Rattle.build_edges.specs.Starts.{Climbs}
 use Rattle.build_neighbours.specs.Side.{placeOf, places, Arranged}
 use Rattle.build_neighbours.specs.Arrange.{keyOf, wordFor, arrangedOne, insertBy, sortBy, arrangedAll}
@@ -42,18 +43,6 @@ ordered f n (y ∷ ws) s (suc i) (suc j) h k = ordered f (suc (f y)) ws (s .1) i
 
 ascending : (ws : List ℕ) → Strict ws → (i j : ℕ) → i ≤ j → j < length ws → getD ws i 0 ≤ getD ws j 0
 ascending ws s = ordered (λ x. x) 0 ws (rw map-id s)
-
-drop-from : (i n : ℕ) (l : List ℕ) → From n l → From n (drop i l)
-unfolding From
-drop-from zero n l s = s
-drop-from (suc i) n [] s = tt
-drop-from (suc i) n (y ∷ l) s = let k = s .0 in from-lower n (suc y) (drop i l) (omega arith) (drop-from i (suc y) l (s .1))
-
-take-from : (i n : ℕ) (l : List ℕ) → From n l → From n (take i l)
-unfolding From
-take-from zero n l s = tt
-take-from (suc i) n [] s = tt
-take-from (suc i) n (y ∷ l) s = (s .0, take-from i (suc y) l (s .1))
 
 -- ---- where the words of one node end
 -- the first j words lie below the end of the words of word i's node
@@ -164,12 +153,6 @@ unfolding sortBy sortOf
 sort-values f [] = refl
 sort-values f (x ∷ l) = insert-values f x (sortBy f l) ∙ ap (insert (f x)) (sort-values f l)
 
-or-swap : (a b c : Bool) → (a || (b || c)) ≡ (b || (a || c))
-or-swap true true c = refl
-or-swap true false c = refl
-or-swap false true c = refl
-or-swap false false c = refl
-
 insert-has : (f : ℕ → ℕ) (z x : ℕ) (l : List ℕ) → has z (insertBy f x l) ≡ (eqb z x || has z l)
 unfolding insertBy has
 insert-has f z x [] = refl
@@ -186,41 +169,6 @@ sort-has f z [] = refl
 sort-has f z (x ∷ l) = insert-has f z x (sortBy f l) ∙ ap (λ t. eqb z x || t) (sort-has f z l)
 
 -- ---- numbers that do not repeat are strictly ascending once they are sorted
-unfoldable Distinct : List ℕ → Type 0
-Distinct [] = Unit {0}
-Distinct (x ∷ l) = (has x l ≡ false) × Distinct l
-
-or-first : (a b : Bool) → (a || b) ≡ false → a ≡ false
-or-first true b h = h
-or-first false b h = refl
-
-or-second : (a b : Bool) → (a || b) ≡ false → b ≡ false
-or-second true b h = absurd (true≢false h)
-or-second false b h = h
-
-before : (x y : ℕ) (l : List ℕ) → x ≤ y → insert x (y ∷ l) ≡ x ∷ y ∷ l
-unfolding insert
-before x y l h = rw (le-leb x y h)
-
-after : (x y : ℕ) (l : List ℕ) → y < x → insert x (y ∷ l) ≡ y ∷ insert x l
-unfolding insert
-after x y l h = rw (lt-leb x y h)
-
-insert-from : (n x : ℕ) (l : List ℕ) → From n l → n ≤ x → has x l ≡ false → From n (insert x l)
-unfolding From has
-insert-from n x [] s h f = unfold insert in (h, tt)
-insert-from n x (y ∷ l) s h f = go (decLe x y) (ℕ-discrete x y) (λ k. insert-from (suc y) x l (s .1) k (or-second (eqb x y) (has x l) f))
-  where
-    go : Dec (x ≤ y) → Dec (x ≡ y) → (suc y ≤ x → From (suc y) (insert x l)) → From n (insert x (y ∷ l))
-    go p (yes e) ih = absurd (true≢false (sym (eq-eqb x y e) ∙ or-first (eqb x y) (has x l) f))
-    go (yes p) (no e) ih = rw (before x y l p) (h, (omega arith, s .1))
-    go (no p) (no e) ih = rw (after x y l (omega arith)) (s .0, ih (omega arith))
-
-sort-strict : (l : List ℕ) → Distinct l → Strict (sortOf l)
-unfolding sortOf Distinct From
-sort-strict [] d = tt
-sort-strict (x ∷ l) d = insert-from 0 x (sortOf l) (sort-strict l (d .1)) (omega arith) (has-sort x l ∙ d .0)
-
 one-to-one-has : (f : ℕ → ℕ) → ((x y : ℕ) → f x ≡ f y → x ≡ y) → (z : ℕ) (l : List ℕ) → has (f z) (map f l) ≡ has z l
 unfolding has
 one-to-one-has f one z [] = refl

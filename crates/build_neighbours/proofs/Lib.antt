@@ -1,4 +1,3 @@
-pub mod Twice
 mod Sides
 mod Sought
 mod Arranging

@@ -3,28 +3,31 @@ use native.Mathlib.Omega.{arith}
 use native.Mathlib.Numerals.{add-one}
 use native.Mathlib.Decide.{decLe, ℕ-discrete}
 use mathlib.Core.Path.{_≡_, refl, sym, ap, ap₂, _∙_}
-use mathlib.Core.Bool.{Bool, true, false, cond, _&&_, _||_, true≢false, and-false, and-true}
+use mathlib.Core.Bool.{Bool, true, false, _&&_, _||_, and-false, and-true}
 use mathlib.Core.List.{List, [], _∷_, _++_, map, flatMap, append-nil, append-assoc}
 use Prim.Native.Nat.{ℕ, suc, _+_, _*_, _/_, _%_, _≤_, _<_}
 use lib.Dec.{eqb, ltb, leb}
 use lib.ListN.{length, take, drop, getD, set, length-set, length-take}
 use lib.Seq.{slice, take-suc-set, append-snoc, drop-set-lt, drop-drop, getD-drop, getD-take, take-at}
 use borrow.Author.Tests.{lt-ltb, le-ltb, ltb-true, le-leb, lt-leb, eq-eqb, ne-eqb, eqb-true}
-use Rattle.rules.specs.Lists.{range, has, keep, insert, sortOf, setOf, From, Strict}
-use Rattle.rules.specs.Store.{nodesIn, labelAt}
+use Rattle.rules.specs.Lists.{range, has, keep, sortOf, setOf}
+use Rattle.laws.specs.Strict.{From, Strict, below, from-lower}
+use Rattle.rules.specs.Store.{mostNodes, nodesIn, labelAt}
 use Rattle.laws.specs.Cases.{first-holds, second-holds}
 use Rattle.laws.specs.Slices.{slice-next, slice-none}
-use Rattle.laws.specs.Sets.{same-members, below, first-has, has-sort, length-sort}
-use Rattle.laws.specs.Members.{keep-yes, has-keep, keep-from, from-lower, has-append}
-use Rattle.laws.specs.Keeping.{later-has}
-use Rattle.laws.specs.Chosen.{flat-same}
-use Rattle.laws.specs.PartMembers.{has-get}
+use Rattle.laws.specs.Sets.{same-members, has-sort, length-sort}
+use Rattle.laws.specs.Has.{first-has, has-append, later-has, has-get}
+use Rattle.laws.specs.Keep.{keep-yes, has-keep, keep-from, keep-whole, keep-same}
+use Rattle.laws.specs.Map.{flat-same}
 use Rattle.laws.specs.Searching.{standsIn, stands-has, between}
 use Rattle.build_edges.specs.Packed.{wordIn, hasLabel, labelledIn}
-use Rattle.build_edges.specs.Near.{wordsOf, lows, isLabelled}
+use Rattle.build_edges.specs.Near.{wordsOf, isLabelled}
+use Rattle.laws.specs.Lows.{lows}
 use Rattle.build_neighbours.specs.Side.{sideIn, sideOf, Held, Listed}
 use Rattle.build_neighbours.specs.Pairs.{turned, marked, partTold, Paired}
-use Rattle.build_edges.proofs.Nearby.{either-side, has-range, labelled-strict}
+use Rattle.build_edges.proofs.Nearby.{either-side, labelled-strict}
+use Rattle.laws.specs.Range.{has-range}
+use Rattle.laws.specs.Distinct.{sort-strict, Distinct, strict-distinct, distinct-append}
 use Rattle.build_neighbours.proofs.Sides.{side-words, side-lows, side-strict}
 
 -- ---- a loop that writes f of each of a list behind k words: what is written and what is to come are the whole
@@ -88,37 +91,6 @@ module _ {n : ℕ} {out₀ out : List ℕ} {i : ℕ} (g : Marking n out₀ out i
       let e : n ≡ i = omega arith in
       ap (λ m. take m out) e ∙ written (rw (slice-none i n out₀ h) at (g .part))
 
--- ---- numbers that come once each, sorted
-abbrev Distinct : List ℕ → Type 0
-Distinct [] = Unit {0}
-Distinct (x ∷ l) = (has x l ≡ false) × Distinct l
-
-strict-distinct : (n : ℕ) (l : List ℕ) → From n l → Distinct l
-unfolding From
-strict-distinct n [] f = tt
-strict-distinct n (y ∷ l) f = (below y (suc y) l (f .1) (omega arith), strict-distinct (suc y) l (f .1))
-
--- two lists without a common number
-distinct-append : (a b : List ℕ) → Distinct a → Distinct b → ((z : ℕ) → has z a ≡ true → has z b ≡ false) → Distinct (a ++ b)
-distinct-append [] b da db apart = db
-distinct-append (x ∷ a) b da db apart =
-    (has-append x a b ∙ rw (da .0) (apart x (first-has x a)), distinct-append a b (da .1) db (λ z h. apart z (later-has x z a h)))
-
-insert-from : (n x : ℕ) (l : List ℕ) → n ≤ x → has x l ≡ false → From n l → From n (insert x l)
-unfolding From insert has
-insert-from n x [] h e f = (h, tt)
-insert-from n x (y ∷ l) h e f = go (decLe x y) (ℕ-discrete x y) (insert-from (suc y) x l)
-  where
-    go : Dec (x ≤ y) → Dec (x ≡ y) → (suc y ≤ x → has x l ≡ false → From (suc y) l → From (suc y) (insert x l)) → From n (cond (leb x y) (x ∷ y ∷ l) (y ∷ insert x l))
-    go d (yes q) ih = absurd (true≢false (sym (rw (eq-eqb x y q)) ∙ e))
-    go (yes k) (no q) ih = rw (le-leb x y k) (h, (omega arith, f .1))
-    go (no k) (no q) ih = rw (lt-leb x y (omega arith)) (f .0, ih (omega arith) (rw (ne-eqb x y q) at e) (f .1))
-
-sort-strict : (l : List ℕ) → Distinct l → Strict (sortOf l)
-unfolding sortOf From
-sort-strict [] d = tt
-sort-strict (x ∷ l) d = insert-from 0 x (sortOf l) (omega arith) (has-sort x l ∙ d .0) (sort-strict l (d .1))
-
 -- ---- words with one low half
 module _ (v : ℕ) (low : v < 65536) where
   abbrev withLow : List ℕ → List ℕ
@@ -166,7 +138,7 @@ module _ (side : ℕ → List ℕ) where
       go (no f) ih = rw (ne-eqb (z % 65536) v f) ih
 
   each-distinct : (n : ℕ) (list : List ℕ) → From n list → ((v : ℕ) → has v list ≡ true → v < 65536) → ((v : ℕ) → has v list ≡ true → Strict (side v)) → Distinct (flatMap each list)
-  unfolding From flatMap
+  unfolding From flatMap Distinct
   each-distinct n [] f h s = tt
   each-distinct n (v ∷ list) f h s =
       let low = h v (first-has v list) in
@@ -176,15 +148,6 @@ module _ (side : ℕ → List ℕ) where
       (λ z k. each-has z list rest ∙ rw (eqb-true (z % 65536) v (first-holds (eqb (z % 65536) v) (has (z / 65536) (side v)) (sym (low-has v low z (side v)) ∙ k)), below v (suc v) list (f .1) (omega arith)))
 
 -- ---- tests that hold of all that they are asked for
-keep-agree : (p q : ℕ → Bool) (l : List ℕ) → ((x : ℕ) → has x l ≡ true → p x ≡ q x) → keep p l ≡ keep q l
-unfolding keep
-keep-agree p q [] h = refl
-keep-agree p q (x ∷ l) h = rw (h x (first-has x l), keep-agree p q l (λ y k. h y (later-has x y l k)))
-
-keep-whole : (p : ℕ → Bool) (l : List ℕ) → ((x : ℕ) → has x l ≡ true → p x ≡ true) → keep p l ≡ l
-keep-whole p [] h = unfold keep in refl
-keep-whole p (x ∷ l) h = keep-yes p x l (h x (first-has x l)) ∙ ap (λ m. x ∷ m) (keep-whole p l (λ y k. h y (later-has x y l k)))
-
 keep-lows : (p : ℕ → Bool) (ws : List ℕ) → ((w : ℕ) → has w ws ≡ true → p (w % 65536) ≡ true) → keep p (lows ws) ≡ lows ws
 keep-lows p [] h = unfold keep in refl
 keep-lows p (w ∷ ws) h = keep-yes p (w % 65536) (lows ws) (h w (first-has w ws)) ∙ ap (λ m. w % 65536 ∷ m) (keep-lows p ws (λ y k. h y (later-has w y ws k)))
@@ -307,7 +270,7 @@ module _ {nodes joined starts : List ℕ} (held : Held nodes joined starts) {l :
       told-lows (setOf joined) list u (wordsOf pairs u) (λ w k. low (w % 65536) (pair-low w (words-in u w k)))
       ∙ sym (keep-lows (λ v. standsIn v list) (wordsOf pairs u) (λ w k. stands-has (w % 65536) list (listed .ascends) ∙ pair-low w (words-in u w k)))
       ∙ either-side pairs list u pair-strict (listed .ascends) (omega arith)
-      ∙ keep-agree (wordIn pairs u) (wordIn (setOf joined) u) list (λ v k. pair-word u v h k)
+      ∙ keep-same (wordIn pairs u) (wordIn (setOf joined) u) list (λ v k. pair-word u v h k)
 
   pub paired-turned : Paired nodes (setOf joined) s list pairs
   paired-turned = record { ascends = pair-strict; from = pair-high; each = pair-each }
@@ -396,7 +359,7 @@ module _ {nodes joined starts : List ℕ} (held : Held nodes joined starts) {l :
 pub node-low : {nodes joined starts list : List ℕ} {l : ℕ} → Held nodes joined starts → Listed nodes l list → (i : ℕ) → i < length list → getD list i 0 < 65535
 node-low {nodes} {joined} {starts} {list} held listed i h = let a = listed-below listed (getD list i 0) (has-get list i h) in let b = held .few in omega arith
 
-pub labelled-low : (nodes : List ℕ) (s : ℕ) (out : List ℕ) (n : ℕ) → nodesIn nodes ≤ 65535 → n ≤ length out → take n out ≡ labelledIn nodes s → (i : ℕ) → i < n → getD out i 0 ≤ 65535
+pub labelled-low : (nodes : List ℕ) (s : ℕ) (out : List ℕ) (n : ℕ) → nodesIn nodes ≤ mostNodes → n ≤ length out → take n out ≡ labelledIn nodes s → (i : ℕ) → i < n → getD out i 0 ≤ 65535
 labelled-low nodes s out n few fits e i h =
     let m : length (take n out) ≡ n = rw length-take (omega arith) in
     let k = labelled-below nodes s (getD (take n out) i 0) (ap (has (getD (take n out) i 0)) (sym e) ∙ has-get (take n out) i (omega arith)) in

@@ -8,21 +8,21 @@ use Prim.Native.Nat.{ℕ, suc, _+_, _-_, _*_, _/_, _%_, _≤_, _<_}
 use lib.Dec.{eqb, ltb}
 use lib.ListN.{length, getD, length-map}
 use borrow.Author.Tests.{lt-ltb, le-ltb, eq-eqb, ne-eqb, eqb-true}
-use Rattle.rules.specs.Lists.{range, all, any, has, keep, setOf, From, Strict}
-use Rattle.rules.specs.Store.{nodesIn, labelAt}
+use Rattle.rules.specs.Lists.{range, all, any, has, keep, setOf}
+use Rattle.laws.specs.Strict.{From, Strict, from-lower}
+use Rattle.rules.specs.Store.{mostNodes, nodesIn, labelAt}
 use Rattle.laws.specs.Cases.{first-holds, second-holds}
-use Rattle.laws.specs.PartMembers.{has-get}
+use Rattle.laws.specs.Has.{has-get}
 use Rattle.laws.specs.Sets.{same-members, has-set, set-strict}
-use Rattle.laws.specs.Members.{keep-yes, keep-no, has-keep, keep-from, from-lower}
-use Rattle.laws.specs.Keeping.{keep-most}
+use Rattle.laws.specs.Keep.{keep-yes, keep-no, has-keep, keep-from, keep-most}
 use Rattle.laws.specs.Searching.{stands-has}
 use Rattle.build_edges.specs.Packed.{wordIn, hasLabel, labelledIn}
-use Rattle.build_edges.specs.Near.{lows}
+use Rattle.laws.specs.Lows.{lows, lows-none}
 use Rattle.build_neighbours.specs.Side.{placeOf, places, Arranged, sideIn, sideOf, Held}
 use Rattle.build_neighbours.specs.Left.{labelsLeft}
 use Rattle.build_neighbours.specs.Useful.{reaches}
-use Rattle.build_edges.proofs.Ranges.{length-range}
-use Rattle.build_edges.proofs.Nearby.{lows-none, has-range, labelled-strict}
+use Rattle.laws.specs.Range.{length-range, has-range}
+use Rattle.build_edges.proofs.Nearby.{labelled-strict}
 
 -- ---- numbers moved up by a
 module _ (a : ℕ) where
@@ -136,7 +136,7 @@ module _ (nodes joined : List ℕ) (v l : ℕ) (arranged : Arranged nodes joined
           rw (lt-ltb z (nodesIn nodes) k)
       go false e = and-false (eqb (labelAt nodes z) l)
 
-  pub side-lows : v < 65536 → nodesIn nodes ≤ 65535 → lows (sideIn nodes joined v l) ≡ sideOf nodes (setOf joined) v l
+  pub side-lows : v < 65536 → nodesIn nodes ≤ mostNodes → lows (sideIn nodes joined v l) ≡ sideOf nodes (setOf joined) v l
   unfolding sideIn
   side-lows h few =
       same-members 0 (lows (keep (mine nodes v l) joined)) (sideOf nodes (setOf joined) v l) (lows-strict nodes v l joined (arranged .ascends))
@@ -149,7 +149,7 @@ module _ (nodes joined : List ℕ) (v l : ℕ) (arranged : Arranged nodes joined
           lows-has nodes v l z joined q ∙ both z q
           ∙ sym (has-keep (wordIn (setOf joined) v) z (labelledIn nodes l) ∙ ap₂ (λ s t. s && t) (stands z h q) (labelled-has nodes l z))
 
-  pub side-words : v < 65536 → nodesIn nodes ≤ 65535 → sideIn nodes joined v l ≡ map (λ u. v * 65536 + u) (sideOf nodes (setOf joined) v l)
+  pub side-words : v < 65536 → nodesIn nodes ≤ mostNodes → sideIn nodes joined v l ≡ map (λ u. v * 65536 + u) (sideOf nodes (setOf joined) v l)
   unfolding sideIn
   side-words h few = back nodes v l joined ∙ ap (moved (v * 65536)) (side-lows h few)
 

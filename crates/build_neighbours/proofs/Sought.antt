@@ -10,16 +10,17 @@ use lib.ListN.{length, take, drop, getD, length-map}
 use lib.Seq.{slice, take-length}
 use borrow.Author.Tests.{le-leb, lt-leb, lt-ltb, le-ltb, eq-eqb, ne-eqb}
 use Rattle.rules.specs.Words.{u16At, part}
-use Rattle.rules.specs.Lists.{has, keep, From, Strict, halving}
+use Rattle.rules.specs.Lists.{has, keep, halving}
+use Rattle.laws.specs.Strict.{From, Strict, from-lower}
 use Rattle.rules.specs.Store.{labelAt}
 use Rattle.laws.specs.Cases.{second-holds}
 use Rattle.laws.specs.Halving.{HalvingLeft, half-start}
-use Rattle.laws.specs.PartMembers.{part-slice, has-get}
-use Rattle.laws.specs.Members.{keep-yes, keep-no, has-keep, from-lower}
+use Rattle.laws.specs.PartMembers.{part-slice}
+use Rattle.laws.specs.Has.{has-get}
+use Rattle.laws.specs.Keep.{keep-yes, keep-no, has-keep, keep-keep}
 use Rattle.laws.specs.Searching.{isBelow, lower, between, range-of, lower-order, lower-within}
 use Rattle.build_edges.specs.Near.{wordsOf}
 use Rattle.build_neighbours.specs.Side.{placeOf, places, Arranged, sideIn}
-use Rattle.build_neighbours.proofs.Twice.{keep-keep}
 use Rattle.build_neighbours.proofs.Sides.{mine}
 
 -- ---- a search among the places

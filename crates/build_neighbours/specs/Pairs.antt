@@ -4,9 +4,11 @@ use mathlib.Core.Path.{_≡_}
 use mathlib.Core.Bool.{cond, true}
 use mathlib.Core.List.{List, [], _∷_}
 use lib.Dec.{eqb}
-use Rattle.rules.specs.Lists.{keep, has, Strict}
+use Rattle.rules.specs.Lists.{keep, has}
+use Rattle.laws.specs.Strict.{Strict}
 use Rattle.build_edges.specs.Packed.{wordIn, labelledIn}
-use Rattle.build_edges.specs.Near.{wordsOf, lows}
+use Rattle.build_edges.specs.Near.{wordsOf}
+use Rattle.laws.specs.Lows.{lows}
 
 -- a word the other way round
 unfoldable pub turned : ℕ → ℕ

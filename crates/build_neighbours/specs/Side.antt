@@ -4,8 +4,9 @@ use mathlib.Core.Path.{_≡_}
 use mathlib.Core.Bool.{true, _&&_}
 use mathlib.Core.List.{List, map}
 use lib.Dec.{eqb}
-use Rattle.rules.specs.Lists.{keep, has, setOf, Strict}
-use Rattle.rules.specs.Store.{nodesIn, labelAt}
+use Rattle.rules.specs.Lists.{keep, has, setOf}
+use Rattle.laws.specs.Strict.{Strict}
+use Rattle.rules.specs.Store.{mostNodes, nodesIn, labelAt}
 use Rattle.build_edges.specs.Packed.{wordIn, labelledIn}
 use Rattle.build_edges.specs.Near.{isLabelled, Joined}
 use Rattle.build_edges.specs.Starts.{Begun}
@@ -32,7 +33,7 @@ sideOf nodes joined v l = keep (wordIn joined v) (labelledIn nodes l)
 
 -- the edges both ways round, arranged
 pub record Held (nodes joined starts : List ℕ) : Type 0 where
-  pub few : nodesIn nodes ≤ 65535
+  pub few : nodesIn nodes ≤ mostNodes
   pub arranged : Arranged nodes joined
   pub both : Joined (setOf joined)
   pub begun : Begun joined starts

@@ -4,11 +4,12 @@ ghost use mathlib.Core.Path.{_≡_};
 ghost use mathlib.Core.List.{_++_, map, flatMap};
 ghost use Prim.Native.Nat.{ℕ, _+_, _*_, _/_, _≤_, _<_};
 ghost use lib.ListN.{length, take, getD};
-ghost use Rattle.rules.specs.Lists.{keep, setOf, Strict};
-ghost use Rattle.rules.specs.Store.{nodesIn};
+ghost use Rattle.rules.specs.Lists.{keep, setOf};
+ghost use Rattle.laws.specs.Strict.{Strict};
+ghost use Rattle.rules.specs.Store.{mostNodes, nodesIn};
 ghost use Rattle.laws.specs.Searching.{lower};
 ghost use Rattle.build_edges.specs.Packed.{wordIn, labelledIn};
-ghost use Rattle.build_edges.specs.Near.{lows};
+ghost use Rattle.laws.specs.Lows.{lows};
 ghost use Rattle.build_neighbours.specs.Side.{sideIn, Held, Listed};
 ghost use Rattle.build_neighbours.specs.Pairs.{turned, marked, partTold, Paired};
 
@@ -69,7 +70,7 @@ fn mark(out: &mut [u32], n: usize)
 
 // Leaves the nodes labelled s, each as a word that names no node of a list, at the front of out, and returns how many they are.
 fn put_marked(nodes: &[u8], s: u16, out: &mut [u32]) -> usize
-    requires { ⌜ (nodesIn (now nodes) ≤ length (now out)) × (nodesIn (now nodes) ≤ 65535) ⌝ }
+    requires { ⌜ (nodesIn (now nodes) ≤ length (now out)) × (nodesIn (now nodes) ≤ mostNodes) ⌝ }
     ensures { λ r. ⌜ (r ≤ nodesIn (now (nodes .entry))) × (take r (now (out .exit)) ≡ map marked (labelledIn (now (nodes .entry)) s)) ⌝ }
 {
     let n = build_edges::labelled(nodes, s, out);

@@ -5,8 +5,9 @@ ghost use mathlib.Core.Bool.{true};
 ghost use mathlib.Core.List.{_++_, map};
 ghost use Prim.Native.Nat.{ℕ, _/_, _%_, _≤_, _<_};
 ghost use lib.ListN.{length, drop, getD};
-ghost use Rattle.rules.specs.Lists.{has, setOf, Strict};
-ghost use Rattle.rules.specs.Store.{nodesIn};
+ghost use Rattle.rules.specs.Lists.{has, setOf};
+ghost use Rattle.laws.specs.Strict.{Strict};
+ghost use Rattle.rules.specs.Store.{mostNodes, nodesIn};
 ghost use Rattle.build_edges.specs.Starts.{Climbs};
 ghost use Rattle.build_neighbours.specs.Side.{Arranged};
 ghost use Rattle.build_neighbours.specs.Arrange.{keyOf, wordFor, arrangedOne, arrangedAll};
@@ -63,7 +64,7 @@ fn arrange_all(nodes: &[u8], words: &mut [u32], keys: &mut [u32], scratch: &mut 
 
 // Puts words that ascend in the order of their places.
 pub fn arrange(nodes: &[u8], words: &mut [u32])
-    requires { ⌜ ((nodesIn (now nodes) ≤ 65535) × (length (now words) ≤ 524288)) × (Strict (now words) × ((w : ℕ) → has w (now words) ≡ true → w % 65536 < nodesIn (now nodes))) ⌝ }
+    requires { ⌜ ((nodesIn (now nodes) ≤ mostNodes) × (length (now words) ≤ 524288)) × (Strict (now words) × ((w : ℕ) → has w (now words) ≡ true → w % 65536 < nodesIn (now nodes))) ⌝ }
     ensures { λ _. ⌜ (Arranged (now (nodes .entry)) (now (words .exit)) × Climbs (now (words .exit))) × (setOf (now (words .exit)) ≡ now (words .entry)) ⌝ }
 {
     let mut keys = [0u32; 65536];

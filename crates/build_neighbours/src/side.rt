@@ -6,7 +6,7 @@ ghost use lib.ListN.{length, take, getD};
 ghost use Rattle.rules.specs.Lists.{keep, setOf};
 ghost use Rattle.laws.specs.Searching.{isBelow, lower};
 ghost use Rattle.build_edges.specs.Packed.{wordIn, labelledIn};
-ghost use Rattle.build_edges.specs.Near.{lows};
+ghost use Rattle.laws.specs.Lows.{lows};
 ghost use Rattle.build_edges.specs.Starts.{Begun};
 ghost use Rattle.build_neighbours.specs.Useful.{reaches};
 ghost use Rattle.build_neighbours.specs.Left.{labelsIn};

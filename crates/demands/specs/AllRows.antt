@@ -18,8 +18,8 @@ use Rattle.laws.specs.Cases.{first-holds, second-holds}
 use Rattle.laws.specs.Each.{all-each}
 use Rattle.laws.specs.Covering.{rows-next, rows-stop, rows-zero, edge-none, none-covered}
 use Rattle.laws.specs.PatternLaws.{RightPattern}
+use Rattle.laws.specs.Rows.{EdgeRow, next-row, edge-row}
 use Rattle.demands.specs.Faithful.{Faithful}
-use Rattle.demands.specs.Ways.{EdgeRow, next-row, edge-row}
 use Rattle.demands.specs.Gathers.{Candidates, Pairs, Gets, candidatesAt, listsOf, node-gets, node-read, edge-read}
 use Rattle.demands.specs.EdgeRows.{row-pairs}
 
@@ -88,8 +88,8 @@ module _ {g : Graph} {constraints b : List ℕ} {r : Reader} (right : RightPatte
 
         new-pairs : Pairs g b k new
         new-pairs =
-            let own : EdgeRow constraints b figures (row .number) row = subst (λ j. EdgeRow constraints b figures j row) (sym (edge .number)) edge in
-            subst (λ j. Pairs g b j new) (edge .number) (row-pairs right gets all-known own)
+            let own : EdgeRow constraints b figures (row .number) row = subst (λ j. EdgeRow constraints b figures j row) (sym (edge .edge .number)) edge in
+            subst (λ j. Pairs g b j new) (edge .edge .number) (row-pairs right gets all-known own)
 
         at : (j : ℕ) → j < k + 1 → Dec (k ≤ j) → Pairs g b j (getD (got .pairs ++ new ∷ []) j [])
         at j l (yes h) =

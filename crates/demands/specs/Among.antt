@@ -9,33 +9,19 @@ use lib.Dec.{ltb}
 use lib.ListN.{length, getD, take, length-append}
 use lib.Seq.{take-all, take-length, take-take, take-suc, take-append-seam, length-take-le, getD-take, getD-append-seam}
 use borrow.Author.Tests.{lt-ltb, eq-eqb}
-use Rattle.rules.specs.Lists.{all, any, keep, has, lessThen, From, Strict}
+use Rattle.rules.specs.Lists.{all, any, keep, has}
+use Rattle.laws.specs.Strict.{From, Strict}
 use Rattle.rules.specs.Match.{image}
 use Rattle.rules.specs.Listing.{allowed, matchesFrom}
 use Rattle.rules.specs.Answers.{same}
 use Rattle.laws.specs.Cases.{first-holds, second-holds, and-yes}
-use Rattle.laws.specs.Keeping.{all-append}
-use Rattle.laws.specs.Members.{has-keep, keep-from}
+use Rattle.laws.specs.All.{all-append}
+use Rattle.laws.specs.Keep.{has-keep, keep-from}
 use Rattle.laws.specs.Matches.{matches-next}
-use Rattle.demands.specs.Reading.{same-equal, equal-same}
-use Rattle.demands.specs.Every.{Every, every-more, every-append, every-flat, every-member, any-flat, any-member, any-passed}
-
--- ---- the words of the statement
--- a row is among some rows
-unfoldable pub among : List ℕ → List (List ℕ) → Bool
-among row rows = any (same row) rows
-
--- a row comes before another: the first id in which they differ is lower, or it ends first
-unfoldable pub before : List ℕ → List ℕ → Bool
-before [] [] = false
-before [] (y ∷ ys) = true
-before (x ∷ xs) [] = false
-before (x ∷ xs) (y ∷ ys) = lessThen x y (before xs ys)
-
--- strictly ascending: each row comes before all that follow it, so none stands twice
-unfoldable pub ascending : List (List ℕ) → Bool
-ascending [] = true
-ascending (row ∷ rows) = all (before row) rows && ascending rows
+use Rattle.laws.specs.Same.{same-equal, equal-same}
+use Rattle.laws.specs.Every.{Every, every-more, every-append, every-flat, every-member, any-passed, all-every}
+use Rattle.laws.specs.Any.{any-flat, any-member}
+use Rattle.demands.specs.Exactly.{among, before, ascending}
 
 -- ---- which rows
 -- a row from its node u on: each image is a candidate, and may stand after the images before it
@@ -116,11 +102,6 @@ module _ (b : List ℕ) (c : ℕ → List ℕ) (p : ℕ → ℕ → ℕ → Bool
       (rw more (stands-among row n (suc k) (omega arith) (λ u a d. at u (omega arith) d))))
 
 -- ---- in which order
-all-every : {A : Type 0} (q : A → Bool) (xs : List A) → Every (λ x. q x ≡ true) xs → all q xs ≡ true
-unfolding all Every
-all-every q [] h = refl
-all-every q (x ∷ xs) h = rw (h .0) (all-every q xs (h .1))
-
 -- two runs of rows, each of the first before all of the second
 ascending-append : (xs ys : List (List ℕ)) → ascending xs ≡ true → ascending ys ≡ true → Every (λ row. Every (λ q. before row q ≡ true) ys) xs → ascending (xs ++ ys) ≡ true
 unfolding ascending Every

@@ -4,10 +4,10 @@ use mathlib.Core.List.{List, [], _∷_}
 use Prim.Native.Nat.{ℕ, _+_, _≤_}
 use lib.ListN.{getD}
 use Rattle.rules.specs.Store.{nodePart, constraintPart, groupPart, entryPart}
-use Rattle.rules.specs.Plan.{bound}
-use Rattle.rules.specs.Answers.{answered, outcome, planNumber, planOutcome, gathered, listOutcome}
+use Rattle.rules.specs.Plan.{bound, mostRead, planWords}
+use Rattle.rules.specs.Answers.{planNumber, planOutcome, gathered, listOutcome}
+use Rattle.laws.specs.Outcomes.{answered, outcome-answered, outcome-number}
 use Rattle.laws.specs.PatternLaws.{pattern-says}
-use Rattle.demands.specs.Numbers.{outcome-number}
 use Rattle.demands.specs.Answered.{answer}
 use Rattle.demands.specs.Within.{reader-short, all-within}
 
@@ -19,15 +19,15 @@ pub record Bounded (s b work room : List ℕ) : Type 0 where
   pub total : ℕ
   pub results : listOutcome s b work room .results ≡ matches ∷ nodes ∷ edges ∷ total ∷ []
   pub within : nodes + edges ≤ total
-  pub small : total ≤ 65536
+  pub small : total ≤ mostRead
   pub planned : (plan : List ℕ) → planOutcome s b plan .number ≡ 0 → planOutcome s b plan .results ≡ total ∷ []
 
 -- T of an answered plan
 planned-bound : (s b plan : List ℕ) → planOutcome s b plan .number ≡ 0 → planOutcome s b plan .results ≡ bound (constraintPart s) b ∷ []
-unfolding planOutcome outcome answered
+unfolding planOutcome answered
 planned-bound s b plan q =
     let z : planNumber s b plan ≡ 0 = sym (outcome-number (planNumber s b plan) _ _ [] plan) ∙ q in
-    rw z
+    rw z (ap (λ o. o .results) (outcome-answered (bound (constraintPart s) b ∷ []) (planWords (constraintPart s) b) plan []))
 
 -- An answered listing reads at most T entries, for any store, admitted or not.
 pub listing-bounded : (s b work room : List ℕ) → listOutcome s b work room .number ≡ 0 → Bounded s b work room

@@ -1,8 +1,8 @@
 -- What an edge row gathers: pairs that are edges of the graph and leave out no match. Assumes nothing.
 use native.Mathlib.Omega.{arith}
 use mathlib.Core.Path.{_≡_, refl, sym, ap, _∙_}
-use mathlib.Core.Bool.{Bool, true, false, cond, _&&_, _||_, false≢true}
-use mathlib.Core.List.{List, [], _∷_, _++_, map, flatMap}
+use mathlib.Core.Bool.{Bool, true, false, cond, _&&_, false≢true}
+use mathlib.Core.List.{List, [], _∷_, map, flatMap}
 use Prim.Native.Nat.{ℕ, suc, _+_, _*_, _<_}
 use lib.Dec.{eqb}
 use lib.ListN.{length, getD, length-map}
@@ -17,20 +17,13 @@ use Rattle.rules.specs.Listing.{Gathered, keysFrom, placeOf, bitSet, agrees, pa
 use Rattle.rules.specs.declared.Row.{Row}
 use Rattle.laws.specs.Cases.{first-holds, second-holds}
 use Rattle.laws.specs.PatternLaws.{RightPattern, edge-says}
-use Rattle.demands.specs.Every.{every-member, any-flat, any-map, any-member, any-passed, beside-length}
+use Rattle.laws.specs.Every.{every-member, any-passed}
+use Rattle.laws.specs.Any.{any-flat, any-map, any-member, any-keep}
+use Rattle.laws.specs.Beside.{beside-length}
+use Rattle.laws.specs.Rows.{EdgeRow}
+use Rattle.laws.specs.KeyLists.{bit-from, bit-to}
 use Rattle.demands.specs.Matched.{match-says}
-use Rattle.demands.specs.Ways.{EdgeRow}
-use Rattle.demands.specs.KeyLists.{bit-from, bit-to}
 use Rattle.demands.specs.Gathers.{entryOf, readOf, byOf, candidatesAt, listsOf, hasBoth, Pairs, Gets, keys-are, key-taken, image-listed}
-
-any-keep : {A : Type 0} (q t : A → Bool) (xs : List A) → any q (keep t xs) ≡ any (λ x. t x && q x) xs
-unfolding any keep
-any-keep q t [] = refl
-any-keep q t (x ∷ xs) = go (t x) (any-keep q t xs)
-  where
-    go : (s : Bool) → any q (keep t xs) ≡ any (λ x. t x && q x) xs → any q (cond s (x ∷ []) [] ++ keep t xs) ≡ (s && q x || any (λ x. t x && q x) xs)
-    go true ih = ap (λ z. q x || z) ih
-    go false ih = ih
 
 -- ---- the place of the other end
 place-below : (o : ℕ) (ws : List ℕ) → has o ws ≡ true → placeOf o ws < length ws
@@ -123,10 +116,10 @@ module _ {g : Graph} {constraints b figures : List ℕ} {got : Gathered} {row : 
   ends-are true e f =
       let is : row .fetched ≡ patternTo b (row .number) = eqb-true (row .fetched) (patternTo b (row .number)) e in
       let other : eqb (row .fetched) (patternFrom b (row .number)) ≡ false =
-      ne-eqb (row .fetched) (patternFrom b (row .number)) (λ q. edge-says right (row .number) (edge .below) .apart (sym q ∙ is)) in
+      ne-eqb (row .fetched) (patternFrom b (row .number)) (λ q. edge-says right (row .number) (edge .edge .below) .apart (sym q ∙ is)) in
       (rw other, ap f is)
   ends-are false e f =
-      let is : row .fetched ≡ patternFrom b (row .number) = edge .ends (eqb-false (row .fetched) (patternTo b (row .number)) e) in
+      let is : row .fetched ≡ patternFrom b (row .number) = edge .edge .ends (eqb-false (row .fetched) (patternTo b (row .number)) e) in
       (ap f is, rw (eq-eqb (row .fetched) (patternFrom b (row .number)) is))
 
   row-sound : (x y : ℕ) → hasBoth (flatMap (pairsIn b got row) (listsOf g constraints got row)) x y ≡ true → g .edge x y ≡ true
@@ -136,7 +129,7 @@ module _ {g : Graph} {constraints b figures : List ℕ} {got : Gathered} {row : 
       let list = listOf g (byOf constraints row) (key .one) in
       let p = place g constraints b got row x y in
       let size : length (key .one) ≡ length (chosenOf row) = beside-length _ (chosenOf row) (key .one) (key .holds .0) in
-      let inside : p < length (key .one) = omega (arith, place-below (otherEnd b (row .number) (row .fetched)) (chosenOf row) (edge .other)) in
+      let inside : p < length (key .one) = omega (arith, place-below (otherEnd b (row .number) (row .fetched)) (chosenOf row) (edge .edge .other)) in
       let test = passes g (candidatesAt got (row .fetched)) (key .one) p x y (way g constraints b got row x y) in
       let v = any-passed _ test list (every-member (λ v. has v list ≡ true) list (λ v k. k)) (sym (pairs-list g constraints b got row x y (key .one)) ∙ key .passes) in
       passes-edge g (candidatesAt got (row .fetched)) (key .one) p x y inside (way g constraints b got row x y) (v .one) (v .passes)
@@ -154,9 +147,9 @@ module _ {g : Graph} {constraints b figures : List ℕ} {got : Gathered} {row : 
         let other = otherEnd b (row .number) (row .fetched) in
         let ends = ends-are t e (image m) in
         let size : length (map (image m) (chosenOf row)) ≡ length (chosenOf row) = length-map (chosenOf row) (image m) in
-        let inside : placeOf other (chosenOf row) < length (map (image m) (chosenOf row)) = omega (arith, place-below other (chosenOf row) (edge .other)) in
+        let inside : placeOf other (chosenOf row) < length (map (image m) (chosenOf row)) = omega (arith, place-below other (chosenOf row) (edge .edge .other)) in
         edge-passes g (candidatesAt got (row .fetched)) (map (image m) (chosenOf row)) (placeOf other (chosenOf row)) (image m other) inside
-        (place-image (image m) other (chosenOf row) (edge .other)) from to (match-says g b m match .edge (row .number) (edge .below)) t (image m (row .fetched))
+        (place-image (image m) other (chosenOf row) (edge .edge .other)) from to (match-says g b m match .edge (row .number) (edge .edge .below)) t (image m (row .fetched))
         (gets .node (row .fetched) (edge .fetches .fetched) (all-known (row .fetched) (edge .fetches .fetched)) .whole m match) (ends .0) (ends .1)
 
     row-whole : hasBoth (flatMap (pairsIn b got row) (listsOf g constraints got row)) from to ≡ true

@@ -1,11 +1,11 @@
 -- Over candidates and pairs that leave out no match, the rows of the listing are exactly the matches of the graph. Assumes nothing.
 use native.Mathlib.Omega.{arith}
-use native.Mathlib.Decide.{decLe, ℕ-discrete}
+use native.Mathlib.Decide.{decLe}
 use native.Mathlib.Nat.{zero-add}
 use mathlib.Core.Path.{_≡_, refl, sym, ap, _∙_}
-use mathlib.Core.Bool.{Bool, true, false, not, _&&_, _||_, true≢false, false≢true}
-use mathlib.Core.List.{List, [], _∷_}
-use Prim.Native.Nat.{ℕ, zero, suc, _≤_, _<_}
+use mathlib.Core.Bool.{Bool, true, false, not, _&&_, _||_, true≢false}
+use mathlib.Core.List.{List, []}
+use Prim.Native.Nat.{ℕ, _≤_, _<_}
 use lib.Dec.{eqb, ltb}
 use lib.ListN.{length, getD, take}
 use lib.Seq.{getD-take, length-take-le}
@@ -15,40 +15,15 @@ use Rattle.rules.specs.Graph.{Graph}
 use Rattle.rules.specs.Pattern.{sizeOf, edgesOf, patternFrom, patternTo}
 use Rattle.rules.specs.Match.{image, alone, isMatch}
 use Rattle.rules.specs.Listing.{Gathered, edgeAgrees, allowed, hasPair, matchesFrom, matchesOf}
-use Rattle.laws.specs.Cases.{first-holds, second-holds, and-yes}
-use Rattle.laws.specs.Each.{all-each}
+use Rattle.laws.specs.Cases.{first-holds, second-holds, and-yes, both-ways}
+use Rattle.laws.specs.Each.{all-each, each-all}
 use Rattle.laws.specs.PatternLaws.{RightPattern, RightEdge, edge-says}
-use Rattle.demands.specs.Matched.{each-all, Matched, match-says, says-match}
+use Rattle.laws.specs.Has.{has-at, has-get}
+use Rattle.demands.specs.Matched.{Matched, match-says, says-match}
 use Rattle.demands.specs.Gathers.{candidatesAt, hasBoth}
 use Rattle.demands.specs.AllRows.{Whole}
-use Rattle.demands.specs.Among.{among, ascending, StandsFrom, among-stands, stands-among, matches-ascend}
-
--- ---- members by place
-at-has : (l : List ℕ) (i : ℕ) → i < length l → has (getD l i 0) l ≡ true
-unfolding has
-at-has [] i h = absurd (omega arith)
-at-has (x ∷ l) zero h = rw (eq-eqb x x refl)
-at-has (x ∷ l) (suc i) h = yes-or (eqb (getD l i 0) x) (has (getD l i 0) l) (at-has l i (omega arith))
-  where
-    yes-or : (s t : Bool) → t ≡ true → (s || t) ≡ true
-    yes-or true t e = refl
-    yes-or false t e = e
-
-record At (x : ℕ) (l : List ℕ) : Type 0 where
-  place : ℕ
-  below : place < length l
-  is : getD l place 0 ≡ x
-
-has-at : (x : ℕ) (l : List ℕ) → has x l ≡ true → At x l
-unfolding has
-has-at x [] h = absurd (false≢true h)
-has-at x (y ∷ l) h = go (ℕ-discrete x y) (has-at x l)
-  where
-    go : Dec (x ≡ y) → (has x l ≡ true → At x l) → At x (y ∷ l)
-    go (yes e) ih = record { place = 0; below = omega arith; is = sym e }
-    go (no n) ih =
-        let s = ih (rw (ne-eqb x y n) at h) in
-        record { place = suc (s .place); below = omega (arith, s .below); is = s .is }
+use Rattle.demands.specs.Exactly.{among, Exactly}
+use Rattle.demands.specs.Among.{StandsFrom, among-stands, stands-among, matches-ascend}
 
 -- ---- a node on none that an earlier one stands on
 module _ (row : List ℕ) (u : ℕ) (l : u < length row) where
@@ -61,7 +36,7 @@ module _ (row : List ℕ) (u : ℕ) (l : u < length row) where
     where
       apart : (w : ℕ) → w < u → image row w ≡ image row u → ⊥
       apart w k e =
-          let member : has (getD (take u row) w 0) (take u row) ≡ true = at-has (take u row) w (omega (arith, size-before)) in
+          let member : has (getD (take u row) w 0) (take u row) ≡ true = has-get (take u row) w (omega (arith, size-before)) in
           true≢false (sym (rw (getD-take u row w 0 k, e) at member) ∙ h)
 
   alone-not : alone row u ≡ true → has (image row u) (take u row) ≡ false
@@ -174,16 +149,10 @@ module _ {g : Graph} {b : List ℕ} {got : Gathered} (right : RightPattern b) (w
             (λ j a d. pair-agrees b (hasPair got) row u j l (pair-both j _ _ ∙ whole .pairs j (omega arith) .whole row match))),
       )
 
-  -- The listing's rows are the matches: a row is among them exactly if it is a match of the graph.
-  pub rows-exact : (row : List ℕ) → among row (matchesOf b got) ≡ isMatch g b row
+  rows-exact : (row : List ℕ) → among row (matchesOf b got) ≡ isMatch g b row
   unfolding matchesOf
-  rows-exact row = both (among row (matchesFrom b (candidatesAt got) (hasPair got) (sizeOf b) [])) (isMatch g b row) sound all-of
+  rows-exact row = both-ways (among row (matchesFrom b (candidatesAt got) (hasPair got) (sizeOf b) [])) (isMatch g b row) sound all-of
     where
-      both : (s t : Bool) → (s ≡ true → t ≡ true) → (t ≡ true → s ≡ true) → s ≡ t
-      both true t f h = sym (f refl)
-      both false true f h = h refl
-      both false false f h = refl
-
       sound : among row (matchesFrom b (candidatesAt got) (hasPair got) (sizeOf b) []) ≡ true → isMatch g b row ≡ true
       sound h =
           let s = among-stands b (candidatesAt got) (hasPair got) (sizeOf b) [] row h in
@@ -193,7 +162,10 @@ module _ {g : Graph} {b : List ℕ} {got : Gathered} (right : RightPattern b) (w
       all-of match =
           stands-among b (candidatesAt got) (hasPair got) row (sizeOf b) 0 (zero-add (sizeOf b) ∙ sym (match-says g b row match .size)) (match-stands row match)
 
-  -- They stand in ascending order, each once.
-  pub rows-ascending : ascending (matchesOf b got) ≡ true
+  -- The listing's rows are exactly the matches of the graph, each once, in ascending order.
+  pub rows-exactly : Exactly g b (matchesOf b got)
   unfolding matchesOf
-  rows-ascending = matches-ascend b (candidatesAt got) (hasPair got) (sizeOf b) [] (λ u l. whole .candidates u (omega arith) .strict)
+  rows-exactly = record {
+    exact = rows-exact;
+    ordered = matches-ascend b (candidatesAt got) (hasPair got) (sizeOf b) [] (λ u l. whole .candidates u (omega arith) .strict);
+  }

@@ -1,51 +1,28 @@
 -- The list of a key in the graph of a store is fit. Assumes nothing.
-use mathlib.Core.Path.{_≡_, refl, sym, ap, _∙_}
-use mathlib.Core.Bool.{Bool, true, false, cond, not, _&&_, _||_, false≢true}
-use mathlib.Core.List.{List, [], _∷_, map}
-use Prim.Native.Nat.{ℕ, zero, suc, _+_, _-_, _*_, _^_, _≤_, _<_}
+use mathlib.Core.Path.{_≡_, sym, ap, _∙_}
+use mathlib.Core.Bool.{Bool, true, false, cond, not, _||_, false≢true}
+use mathlib.Core.List.{List, map}
+use Prim.Native.Nat.{ℕ, zero, suc, _+_, _-_, _^_, _≤_, _<_}
 use native.Mathlib.Omega.{arith}
 use lib.Dec.{ltb, eqb}
 use lib.ListN.{length, getD, length-map}
 use borrow.Author.Tests.{eq-eqb, ne-eqb, lt-ltb, le-ltb}
-use Rattle.rules.specs.Words.{u32At}
-use Rattle.rules.specs.Lists.{allFrom, all, has, From}
+use Rattle.rules.specs.Lists.{all}
 use Rattle.rules.specs.Store.{nodesIn, labelAt, labelsOf}
 use Rattle.rules.specs.Graph.{Graph, graphOf, neighbours}
 use Rattle.rules.specs.Index.{listOf, directionsOf, entriesOf, listBytes}
 use Rattle.rules.specs.Listing.{inside, listPart, bitsFor, idRight, labelRight, restRight, beyondRight, bitsRight, ruleBroken}
 use Rattle.rules.specs.declared.Constraint.{Constraint}
 use Rattle.rules.specs.declared.Entry.{Entry}
-use Rattle.laws.specs.Cases.{and-yes, first-holds, second-holds}
-use Rattle.laws.specs.Sets.{first-has}
-use Rattle.laws.specs.Keeping.{later-has}
-use Rattle.laws.specs.PartMembers.{has-get}
-use Rattle.demands.specs.KeyLists.{InList, in-list, list-strict, all-get, bits-at, bits-end}
-use Rattle.demands.specs.Places.{all-map-by}
-use Rattle.demands.specs.GroupBytes.{small, smallNode, noEntry, EntryAt, entry-at}
+use Rattle.laws.specs.Has.{has-get}
+use Rattle.laws.specs.KeyLists.{InList, in-list, list-strict, bits-at, bits-end}
+use Rattle.laws.specs.All.{all-map-by, all-has, all-at}
+use Rattle.laws.specs.GroupBytes.{small, smallNode, noEntry, EntryAt, entry-at}
+use Rattle.laws.specs.Map.{get-map}
+use Rattle.laws.specs.Strict.{strict-next}
+use Rattle.laws.specs.Each.{each-all}
 
 -- ---- lists
-each-all : (p : ℕ → Bool) (k n : ℕ) → ((i : ℕ) → i < k + n → p i ≡ true) → allFrom p k n ≡ true
-unfolding allFrom
-each-all p k zero h = refl
-each-all p k (suc n) h = and-yes (p k) (allFrom p (k + 1) n) (h k (omega arith)) (each-all p (k + 1) n (λ i l. h i (omega arith)))
-
-pub all-has : (p : ℕ → Bool) (l : List ℕ) → ((v : ℕ) → has v l ≡ true → p v ≡ true) → all p l ≡ true
-unfolding all
-all-has p [] h = refl
-all-has p (x ∷ l) h = and-yes (p x) (all p l) (h x (first-has x l)) (all-has p l (λ v k. h v (later-has x v l k)))
-
-get-map : {A B : Type 0} (f : A → B) (l : List A) (i : ℕ) (d : A) (e : B) → i < length l → getD (map f l) i e ≡ f (getD l i d)
-get-map f [] i d e h = absurd (omega arith)
-get-map f (x ∷ l) zero d e h = refl
-get-map f (x ∷ l) (suc i) d e h = get-map f l i d e (omega arith)
-
-strict-next : (n : ℕ) (l : List ℕ) (i : ℕ) → From n l → suc i < length l → getD l i 0 < getD l (suc i) 0
-unfolding From
-strict-next n [] i f h = absurd (omega arith)
-strict-next n (x ∷ []) i f h = absurd (omega arith)
-strict-next n (x ∷ y ∷ l) zero f h = f .1 .0
-strict-next n (x ∷ y ∷ l) (suc i) f h = strict-next (suc x) (y ∷ l) i (f .1) (omega arith)
-
 -- a neighbour has a bit
 near-bits : (a b : Bool) → (b || a) ≡ true → cond a 1 0 + cond b 2 0 ≡ 0 → ⊥
 near-bits true true h e = omega arith
@@ -124,13 +101,13 @@ module _ (nodes edges : List ℕ) (d : Constraint) (ids : List ℕ) (size : leng
   bits-right i h =
       rw (read i h .directions)
       (each-all (λ j. not (eqb (bitsFor (directionsOf g ids (node i)) j) 0)) 0 (length (labelsOf d))
-      (λ j k. one j (omega arith)))
+      (λ j a k. one j (omega arith)))
     where
       one : (j : ℕ) → j < length ids → not (eqb (bitsFor (directionsOf g ids (node i)) j) 0) ≡ true
       one j k =
           let u = getD ids j 0 in
           let v = node i in
-          let near : (g .edge v u || g .edge u v) ≡ true = all-get (neighbours g v) ids j (member i h .joined) k in
+          let near : (g .edge v u || g .edge u v) ≡ true = all-at (neighbours g v) 0 ids j (member i h .joined) k in
           ap not (ne-eqb (bitsFor (directionsOf g ids v) j) 0 (λ z. near-bits (g .edge u v) (g .edge v u) near (sym (bits-at g v ids j k) ∙ z)))
 
   -- so the list breaks none, where its bytes stand among the entries and it has at most N
@@ -142,9 +119,9 @@ module _ (nodes edges : List ℕ) (d : Constraint) (ids : List ℕ) (size : leng
         e,
         within,
         le-ltb (d .most) (length list) most,
-        each-all (idRight nodes bytes) 0 (length list) (λ i h. id-right i (omega arith)),
-        each-all (labelRight nodes d bytes) 0 (length list) (λ i h. label-right i (omega arith)),
-        each-all (restRight bytes) 0 (length list) (λ i h. rest-right i (omega arith)),
-        each-all (beyondRight (length (labelsOf d)) bytes) 0 (length list) (λ i h. beyond-right i (omega arith)),
-        each-all (bitsRight (length (labelsOf d)) bytes) 0 (length list) (λ i h. bits-right i (omega arith)),
+        each-all (idRight nodes bytes) 0 (length list) (λ i a h. id-right i (omega arith)),
+        each-all (labelRight nodes d bytes) 0 (length list) (λ i a h. label-right i (omega arith)),
+        each-all (restRight bytes) 0 (length list) (λ i a h. rest-right i (omega arith)),
+        each-all (beyondRight (length (labelsOf d)) bytes) 0 (length list) (λ i a h. beyond-right i (omega arith)),
+        each-all (bitsRight (length (labelsOf d)) bytes) 0 (length list) (λ i a h. bits-right i (omega arith)),
       )

@@ -10,7 +10,8 @@ use lib.Dec.{eqb}
 use lib.ListN.{length, getD, set, length-set}
 use lib.Seq.{getD-set-same, getD-set-other}
 use borrow.Author.Tests.{eq-eqb, ne-eqb}
-use Rattle.rules.specs.Lists.{all, any, keep, has, choices, Strict}
+use Rattle.rules.specs.Lists.{all, any, keep, has, choices}
+use Rattle.laws.specs.Strict.{Strict}
 use Rattle.rules.specs.Store.{constraintsIn, constraintAt, labelsOf}
 use Rattle.rules.specs.Graph.{Graph, neighbours}
 use Rattle.rules.specs.Index.{listOf, directionsOf, entriesOf}
@@ -23,13 +24,16 @@ use Rattle.rules.specs.declared.Row.{Row}
 use Rattle.rules.specs.declared.Entry.{Entry}
 use Rattle.laws.specs.Cases.{first-holds, second-holds}
 use Rattle.laws.specs.Sets.{has-set, set-strict}
-use Rattle.laws.specs.Members.{has-keep}
+use Rattle.laws.specs.Keep.{has-keep}
 use Rattle.laws.specs.Covering.{covered-other}
-use Rattle.demands.specs.Faithful.{IsKey, Faithful}
-use Rattle.demands.specs.Every.{Every, every-more, any-passed, has-flat, Beside, beside-length, beside-at, beside-every, beside-beside, choices-beside, choices-any}
+use Rattle.laws.specs.KeyLists.{IsKey, in-list, list-in}
+use Rattle.laws.specs.Every.{Every, every-more, any-passed}
+use Rattle.laws.specs.Has.{has-flat}
+use Rattle.laws.specs.Beside.{Beside, beside-length, beside-at, beside-every, beside-beside}
+use Rattle.laws.specs.Choices.{choices-beside, choices-any}
+use Rattle.laws.specs.Rows.{Pick, Fetches}
+use Rattle.demands.specs.Faithful.{Faithful}
 use Rattle.demands.specs.Matched.{suits-says, says-suits, match-says, joined-image}
-use Rattle.demands.specs.Ways.{Pick, Fetches}
-use Rattle.demands.specs.KeyLists.{in-list, list-in}
 
 -- ---- the lists as they are read
 -- the entry of a node in the list of a key
@@ -79,7 +83,7 @@ pub record Pairs (g : Graph) (b : List ℕ) (j : ℕ) (pairs : List (ℕ × ℕ)
   pub sound : (x y : ℕ) → hasBoth pairs x y ≡ true → g .edge x y ≡ true
   pub whole : (row : List ℕ) → isMatch g b row ≡ true → hasBoth pairs (image row (patternFrom b j)) (image row (patternTo b j)) ≡ true
 
--- the candidates of each covered node are such
+-- the candidates of each covered node are such, in a list for each pattern node (Within.Kept says as much of another state)
 pub record Gets (g : Graph) (b figures : List ℕ) (got : Gathered) : Type 0 where
   pub size : length (got .candidates) ≡ sizeOf b
   pub node : (u : ℕ) → u < sizeOf b → covered figures u ≡ true → Candidates g b u (getD (got .candidates) u [])

@@ -1,76 +1,68 @@
 -- For an admitted store the lists that the reader reads are the graph's lists. Assumes nothing.
 use mathlib.Core.Path.{_≡_, refl, sym, ap, _∙_}
-use mathlib.Core.Bool.{Bool, true, false, cond, not, _&&_}
-use mathlib.Core.List.{List, [], _∷_, _++_, map, flatMap, append-assoc, append-nil}
-use mathlib.Core.Option.{Option, some, none}
-use Prim.Native.Nat.{ℕ, zero, suc, _+_, _-_, _*_, _≤_, _<_}
-use native.Mathlib.Nat.{add-assoc, zero-add}
+use mathlib.Core.Bool.{Bool, true, false, _&&_}
+use mathlib.Core.List.{List, [], _∷_, _++_, map, append-assoc, append-nil}
+use mathlib.Core.Option.{some}
+use Prim.Native.Nat.{ℕ, _+_, _*_, _≤_, _<_}
 use native.Mathlib.Omega.{arith}
 use lib.Dec.{ltb, leb, eqb}
 use lib.ListN.{length, length-append}
-use borrow.Author.Tests.{eq-eqb, eqb-true, lt-ltb, le-leb, leb-true, ltb-true, not-true, not-false}
+use borrow.Author.Tests.{eqb-true, lt-ltb, le-leb, leb-true, ltb-true, not-false}
 use Rattle.rules.specs.Words.{part}
-use Rattle.rules.specs.Lists.{range, all, has, keep, sum, choices}
-use Rattle.rules.specs.Store.{nodeCount, edgeCount, constraintCount, groupCount, entryCount, groupsAt, entriesAt, endAt, headerRight, header}
-use Rattle.rules.specs.Store.{nodePart, edgePart, constraintPart, groupPart, entryPart, nodesIn, constraintsIn, entriesIn, constraintAt, labelsOf}
+use Rattle.rules.specs.Lists.{range, all, keep, sum}
+use Rattle.rules.specs.Store.{mostConstraints, mostNodes, nodeCount, edgeCount, constraintCount, groupCount, entryCount, groupsAt, entriesAt, header, nodePart, edgePart, constraintPart, groupPart, entryPart, nodesIn, constraintsIn, entriesIn, constraintAt, labelsOf}
 use Rattle.rules.specs.Graph.{Graph, graphOf, storeGraph, labelled}
-use Rattle.rules.specs.Index.{Group, keysOf, listOf, entriesOf, groupsOf, indexOf, satisfies, storeIndex, groupBytes, listBytes, entryBytes, entryTotal, exceeds, storeOf}
-use Rattle.rules.specs.Listing.{Reader, readerOf, readFound, found, keyOf, inside, listPart, entryList, ruleBroken}
-use Rattle.rules.specs.Answers.{admitNumber, graphNumber}
+use Rattle.rules.specs.Index.{someExceeds, Group, keysOf, listOf, entriesOf, groupsOf, indexOf, satisfies, storeIndex, groupBytes, listBytes, entryBytes, entryTotal, exceeds}
+use Rattle.rules.specs.Listing.{readerOf, readFound, found, keyOf, inside, listPart, entryList, ruleBroken}
 use Rattle.rules.specs.declared.Constraint.{Constraint}
 use Rattle.rules.specs.declared.Entry.{Entry}
-use Rattle.rules.specs.declared.Found.{Found}
-use Rattle.rules.specs.declared.Found.the-variants.{At, Nothing}
+use Rattle.rules.specs.declared.Found.the-variants.{At}
 use Rattle.laws.specs.Cases.{and-yes, first-holds, second-holds}
 use Rattle.laws.specs.Header.{Limits, header-limits}
-use Rattle.laws.specs.Keeping.{all-append, all-map}
+use Rattle.laws.specs.All.{all-append, all-map, all-map-by, all-flat-by, all-kept, all-has}
 use Rattle.laws.specs.Parts.{nodes-in, constraints-in}
-use Rattle.demands.specs.Faithful.{IsKey, Faithful}
-use Rattle.demands.specs.Sections.{header-length, groups-read, entries-read, none-exceeds, few-groups, few-entries}
-use Rattle.demands.specs.Numbers.{Sound, admitted-sound}
-use Rattle.demands.specs.Admitted.{body-length, group-length, entry-length, store-split}
-use Rattle.demands.specs.KeyLists.{range-has, labelled-has}
-use Rattle.demands.specs.Places.{all-map-by, all-flat-by, all-kept, ahead, Cut, Around, key-around, key-cut, number-cut, groupOf, filled, groupWords}
-use Rattle.demands.specs.GroupBytes.{small, narrow, list-part, list-read, part-middle}
-use Rattle.demands.specs.Lookup.{Fits, found-own, found-none}
-use Rattle.demands.specs.Fit.{all-has, entry-number, small-entries, list-fit}
+use Rattle.laws.specs.KeyLists.{IsKey, labelled-has}
+use Rattle.laws.specs.Refusals.{graph-zero}
+use Rattle.laws.specs.Sections.{header-length, groups-read, entries-read, few-groups, few-entries}
+use Rattle.laws.specs.GroupBytes.{group-length, entry-length, small, areWords, list-part, list-read, part-middle}
+use Rattle.laws.specs.Range.{has-range}
+use Rattle.laws.specs.Places.{ahead, Cut, Around, key-around, key-cut, number-cut, groupOf, nonempty}
+use Rattle.laws.specs.Lookup.{Fits, found-own, found-none}
+use Rattle.laws.specs.Choices.{choices-all}
+use Rattle.laws.specs.Sums.{sum-both}
+use Rattle.demands.specs.Faithful.{Faithful}
+use Rattle.demands.specs.Numbers.{Sound}
+use Rattle.laws.specs.Drafts.{body-length}
+use Rattle.laws.specs.Stores.{store-split}
+use Rattle.demands.specs.Fit.{entry-number, small-entries, list-fit}
 
 -- ---- the words of an index
-all-choices : (p : ℕ → Bool) (lists : List (List ℕ)) → all (all p) lists ≡ true → all (all p) (choices lists) ≡ true
-unfolding choices all
-all-choices p [] h = refl
-all-choices p (xs ∷ lists) h =
-    all-flat-by p (all p) (λ x. map (λ k. x ∷ k) (choices lists)) xs
-    (λ x e. all-map-by (all p) (all p) (λ k. x ∷ k) (choices lists) (λ k f. and-yes (p x) (all p k) e f) (all-choices p lists (second-holds (all p xs) (all (all p) lists) h)))
-    (first-holds (all p xs) (all (all p) lists) h)
-
 -- where there are few nodes and constraints, constraint and ids of each group are words
-index-narrow : (g : Graph) (constraints : List ℕ) → g .size ≤ 65535 → constraintsIn constraints ≤ 32 → all narrow (indexOf g constraints) ≡ true
+index-words : (g : Graph) (constraints : List ℕ) → g .size ≤ mostNodes → constraintsIn constraints ≤ mostConstraints → all areWords (indexOf g constraints) ≡ true
 unfolding indexOf groupsOf keysOf
-index-narrow g constraints few least =
-    all-flat-by small narrow (λ c. groupsOf g (constraintAt constraints c) c) (range 0 (constraintsIn constraints)) (λ c h. own c h (constraintAt constraints c)) numbers
+index-words g constraints few least =
+    all-flat-by small areWords (λ c. groupsOf g (constraintAt constraints c) c) (range 0 (constraintsIn constraints)) (λ c h. own c h (constraintAt constraints c)) numbers
   where
     numbers : all small (range 0 (constraintsIn constraints)) ≡ true
     numbers =
         all-has small (range 0 (constraintsIn constraints))
-        (λ c h. let k : c < 0 + constraintsIn constraints = ltb-true _ _ (sym (range-has c 0 (constraintsIn constraints) (omega arith)) ∙ h) in lt-ltb c 4294967296 (omega arith))
+        (λ c h. let k : c < 0 + constraintsIn constraints = ltb-true _ _ (sym (has-range c 0 (constraintsIn constraints) (omega arith)) ∙ h) in lt-ltb c 4294967296 (omega arith))
 
     nodes : (l : ℕ) → all small (labelled g l) ≡ true
     nodes l =
         all-has small (labelled g l)
         (λ v h. let k : v < g .size = ltb-true _ _ (first-holds (ltb v (g .size)) (eqb (g .label v) l) (sym (labelled-has g l v) ∙ h)) in lt-ltb v 4294967296 (omega arith))
 
-    own : (c : ℕ) → small c ≡ true → (d : Constraint) → all narrow (groupsOf g d c) ≡ true
+    own : (c : ℕ) → small c ≡ true → (d : Constraint) → all areWords (groupsOf g d c) ≡ true
     own c h d =
-        all-kept filled narrow (map (groupOf g d c) (keysOf g d))
-        (all-map-by (all small) narrow (groupOf g d c) (keysOf g d) (λ k e. and-yes (small c) (all small k) h e)
-        (all-choices small (map (labelled g) (labelsOf d)) (all-map (all small) (labelled g) (labelsOf d) nodes)))
+        all-kept nonempty areWords (map (groupOf g d c) (keysOf g d))
+        (all-map-by (all small) areWords (groupOf g d c) (keysOf g d) (λ k e. and-yes (small c) (all small k) h e)
+        (choices-all small (map (labelled g) (labelsOf d)) (all-map (all small) (labelled g) (labelsOf d) nodes)))
 
 -- ---- how many entries
 total-append : (xs ys : List Group) → entryTotal (xs ++ ys) ≡ entryTotal xs + entryTotal ys
-unfolding entryTotal sum
-total-append [] ys = sym (zero-add (entryTotal ys))
-total-append (x ∷ xs) ys = ap (λ n. length (x .entries) + n) (total-append xs ys) ∙ sym (add-assoc (length (x .entries)) (entryTotal xs) (entryTotal ys))
+unfolding entryTotal
+total-append = sum-both (λ x. length (x .entries))
 
 total-more : (x : Group) (xs : List Group) → entryTotal (x ∷ xs) ≡ length (x .entries) + entryTotal xs
 unfolding entryTotal sum
@@ -92,7 +84,7 @@ all-cut p less x l k h =
     first-holds (p x) (all p (k .after)) (second-holds (all p (k .before)) (p x && all p (k .after)) both)
 
 -- ---- the lists of the graph of nodes and edges, read from the bytes of its index
-module _ (nodes edges constraints : List ℕ) (few : nodesIn nodes ≤ 65535) (fits : Fits (indexOf (graphOf nodes edges) constraints)) where
+module _ (nodes edges constraints : List ℕ) (few : nodesIn nodes ≤ mostNodes) (fits : Fits (indexOf (graphOf nodes edges) constraints)) where
   abbrev g : Graph
   g = graphOf nodes edges
 
@@ -147,7 +139,7 @@ module _ (nodes edges constraints : List ℕ) (few : nodesIn nodes ≤ 65535) (f
     unfolding keep
     read-list = go (eqb (length (own .entries)) 0) refl (around .whole)
       where
-        go : (t : Bool) → eqb (length (own .entries)) 0 ≡ t → index ≡ around .before ++ (keep filled (own ∷ []) ++ around .after)
+        go : (t : Bool) → eqb (length (own .entries)) 0 ≡ t → index ≡ around .before ++ (keep nonempty (own ∷ []) ++ around .after)
             → readFound nodes d (entryBytes index) (found (groupBytes 0 index) (keyOf c ids)) ≡ some (entriesOf g d ids)
         go true e w = read-none (rw e at w) (eqb-true _ _ e)
         go false e w = read-filled (rw e at w)
@@ -165,7 +157,7 @@ module _ (s : List ℕ) (sound : Sound s) where
 
   -- its bytes: header, own nodes, edges and constraints, then groups and entries of its index
   split : s ≡ top ++ (body ++ (groupBytes 0 (storeIndex s) ++ entryBytes (storeIndex s)))
-  split = sym (sound .built) ∙ store-split s
+  split = sym (sound .built) ∙ store-split s (sound .right)
 
   counted-groups : groupCount s ≡ length (storeIndex s)
   counted-groups =
@@ -182,7 +174,6 @@ module _ (s : List ℕ) (sound : Sound s) where
   top-length : length top ≡ 48
   top-length =
       header-length (nodeCount s) (edgeCount s) (constraintCount s) (length (storeIndex s)) (entryTotal (storeIndex s))
-      (limits .nodes) (limits .edges) (limits .constraints) (few-groups s (sound .graph)) (few-entries s (sound .graph)) []
 
   front-length : length (top ++ body) ≡ groupsAt s
   front-length = length-append top body ∙ omega (arith, top-length, body-length s (sound .right))
@@ -205,33 +196,33 @@ module _ (s : List ℕ) (sound : Sound s) where
       let e : s ≡ (top ++ body ++ groups) ++ (entries ++ []) = split ∙ simp (append-assoc, append-nil) in
       ap (λ l. part l (entriesAt s) (entriesAt s + entryCount s * 8)) e ∙ part-middle (top ++ body ++ groups) entries [] (entriesAt s) (entryCount s * 8) f n
 
-  nodes-few : nodesIn (nodePart s) ≤ 65535
+  nodes-few : nodesIn (nodePart s) ≤ mostNodes
   nodes-few = omega (arith, nodes-in s (sound .right), limits .nodes)
 
-  constraints-few : constraintsIn (constraintPart s) ≤ 32
+  constraints-few : constraintsIn (constraintPart s) ≤ mostConstraints
   constraints-few = omega (arith, constraints-in s (sound .right), limits .constraints)
 
   index-fits : Fits (storeIndex s)
   unfolding storeIndex storeGraph graphOf
   index-fits = record {
-    narrow = index-narrow (storeGraph s) (constraintPart s) nodes-few constraints-few;
+    words = index-words (storeGraph s) (constraintPart s) nodes-few constraints-few;
     few = omega (arith, few-entries s (sound .graph));
   }
 
   -- no list exceeds its N
   list-most : (c : ℕ) (ids : List ℕ) → c < constraintsIn (constraintPart s) → IsKey (storeGraph s) (constraintAt (constraintPart s) c) ids
       → length (listOf (storeGraph s) (constraintAt (constraintPart s) c) ids) ≤ constraintAt (constraintPart s) c .most
-  unfolding exceeds satisfies
+  unfolding exceeds satisfies someExceeds
   list-most c ids h key =
       let g = storeGraph s in
       let d = constraintAt (constraintPart s) c in
       let each : all (λ y. satisfies g (constraintAt (constraintPart s) y)) (range 0 (constraintsIn (constraintPart s))) ≡ true =
-      not-false _ (none-exceeds s (sound .graph)) in
+      not-false _ (graph-zero s (sound .graph) .within) in
       let this : satisfies g d ≡ true =
       all-cut (λ y. satisfies g (constraintAt (constraintPart s) y)) ltb c (range 0 (constraintsIn (constraintPart s))) (number-cut g (constraintPart s) c ids h key) each in
       leb-true _ _ (all-cut (λ k. leb (length (listOf g d k)) (d .most)) ahead ids (keysOf g d) (key-cut g (constraintPart s) c ids h key) this)
 
-  sound-faithful : Faithful (storeGraph s) (constraintPart s) (readerOf (nodePart s) (constraintPart s) (groupPart s) (entryPart s))
+  pub sound-faithful : Faithful (storeGraph s) (constraintPart s) (readerOf (nodePart s) (constraintPart s) (groupPart s) (entryPart s))
   unfolding readerOf storeGraph storeIndex graphOf
   sound-faithful = record {
     value = λ v h. refl;
@@ -240,8 +231,3 @@ module _ (s : List ℕ) (sound : Sound s) where
         (read-list (nodePart s) (edgePart s) (constraintPart s) nodes-few index-fits c ids h key (list-most c ids h key));
     most = list-most;
   }
-
--- For an admitted store the reader reads the graph: if admitting answers 0 for s, then the reader of the sections of s but for its edges gives the values of the nodes of the graph of s, and for every key of a constraint it gives, and never refuses, the entries of the key's list in that graph, of which there are at most N.
-pub admitted-faithful : (s : List ℕ) → admitNumber s ≡ 0
-    → Faithful (storeGraph s) (constraintPart s) (readerOf (nodePart s) (constraintPart s) (groupPart s) (entryPart s))
-admitted-faithful s q = sound-faithful s (admitted-sound s q)

@@ -8,11 +8,11 @@ use borrow.Author.Tests.{eqb-true, eqb-false}
 use Rattle.rules.specs.Store.{headerRight, constraintPart}
 use Rattle.rules.specs.Plan.{rowsOf, bound}
 use Rattle.rules.specs.Listing.{nothing, withRows}
-use Rattle.rules.specs.Answers.{refused, readOutcome, gathered, admitNumber, listRefusal, listOutcome}
-use Rattle.demands.specs.Every.{Every}
+use Rattle.rules.specs.Answers.{gathered, admitNumber, listOutcome}
+use Rattle.laws.specs.Outcomes.{refused, readOutcome, listRefusal}
+use Rattle.laws.specs.Every.{Every}
 use Rattle.demands.specs.Numbers.{admitted-sound}
 use Rattle.demands.specs.Answered.{gatheredOf, list-heard, list-refused}
-use Rattle.demands.specs.EdgesUnread.{refusalBy, refusal-by}
 use Rattle.demands.specs.Reads.{ListRead, storeReader, listsRead, storeReads, callReads, AlikeIn}
 use Rattle.demands.specs.ReadAlike.{rows-alike}
 
@@ -20,11 +20,7 @@ use Rattle.demands.specs.ReadAlike.{rows-alike}
 module _ (s t b work : List ℕ) (right : headerRight s ≡ headerRight t) (same : constraintPart s ≡ constraintPart t)
     (alike : Every (AlikeIn (storeReader s) (storeReader t)) (callReads s b work)) where
   refusal-same : listRefusal s b work ≡ listRefusal t b work
-  refusal-same =
-      refusal-by s b work
-      ∙ ap (λ h. refusalBy h (constraintPart s) b work) right
-      ∙ ap (λ c. refusalBy (headerRight t) c b work) same
-      ∙ sym (refusal-by t b work)
+  refusal-same = rw (right, same)
 
   -- where none of these numbers is given, the same is gathered and the same lists are read
   rows-same : eqb (listRefusal s b work) 0 ≡ true → (gatheredOf s b ≡ gatheredOf t b) × (storeReads s b ≡ storeReads t b)

@@ -3,7 +3,7 @@ use native.Mathlib.Omega.{arith}
 use mathlib.Core.Path.{_≡_, refl}
 use mathlib.Core.Bool.{Bool, true, false, _&&_, _||_}
 use mathlib.Core.List.{List}
-use Prim.Native.Nat.{ℕ, zero, suc, _+_, _≤_, _<_}
+use Prim.Native.Nat.{ℕ, _<_}
 use lib.Dec.{ltb, eqb}
 use lib.ListN.{length}
 use borrow.Author.Tests.{eqb-true, eq-eqb, ltb-true, lt-ltb}
@@ -11,14 +11,8 @@ use Rattle.rules.specs.Lists.{allFrom}
 use Rattle.rules.specs.Graph.{Graph, neighbours}
 use Rattle.rules.specs.Pattern.{sizeOf, edgesOf, patternLabel, meetsBoth, patternFrom, patternTo, patternEdge, joined}
 use Rattle.rules.specs.Match.{image, suits, alone, isMatch}
-use Rattle.laws.specs.Cases.{first-holds, second-holds, and-yes, or-left}
-use Rattle.laws.specs.Each.{all-each, any-some}
-
--- each: so all
-pub each-all : (p : ℕ → Bool) (k n : ℕ) → ((i : ℕ) → k ≤ i → i < k + n → p i ≡ true) → allFrom p k n ≡ true
-unfolding allFrom
-each-all p k zero h = refl
-each-all p k (suc n) h = and-yes (p k) (allFrom p (k + 1) n) (h k (omega arith) (omega arith)) (each-all p (k + 1) n (λ i a c. h i (omega arith) (omega arith)))
+use Rattle.laws.specs.Cases.{first-holds, second-holds, or-left}
+use Rattle.laws.specs.Each.{all-each, any-some, each-all}
 
 -- ---- a node that suits
 pub record Suited (g : Graph) (b : List ℕ) (u v : ℕ) : Type 0 where

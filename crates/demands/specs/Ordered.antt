@@ -2,16 +2,15 @@
 use native.Mathlib.Omega.{arith}
 use native.Mathlib.Decide.{ℕ-discrete, decLe}
 use mathlib.Core.Path.{_≡_, refl, sym, ap, _∙_}
-use mathlib.Core.Bool.{Bool, true, false, _&&_, _||_, false≢true, true≢false}
+use mathlib.Core.Bool.{Bool, true, false, _||_, false≢true, true≢false}
 use mathlib.Core.List.{List, [], _∷_}
-use Prim.Native.Nat.{ℕ, _≤_, _<_}
-use lib.Dec.{eqb, ltb}
-use borrow.Author.Tests.{eqb-true, eq-eqb, ne-eqb, lt-ltb, le-ltb, ltb-true}
-use Rattle.rules.specs.Lists.{all, any, lessThen}
+use Prim.Native.Nat.{ℕ, _≤_}
+use borrow.Author.Tests.{eq-eqb, ne-eqb, lt-ltb, le-ltb}
+use Rattle.rules.specs.Lists.{all, any}
 use Rattle.rules.specs.Answers.{same}
 use Rattle.laws.specs.Cases.{first-holds, second-holds}
-use Rattle.demands.specs.Reading.{same-equal, equal-same}
-use Rattle.demands.specs.Among.{among, before, ascending}
+use Rattle.laws.specs.Same.{same-equal, equal-same}
+use Rattle.demands.specs.Exactly.{among, before, ascending}
 
 -- ---- the order of rows
 -- no row comes before itself

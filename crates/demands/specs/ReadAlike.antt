@@ -1,16 +1,16 @@
 -- Two readers that are alike in what the first reads gather the same, and read the same lists. Assumes nothing.
 use mathlib.Core.Path.{_≡_, refl, ap}
-use mathlib.Core.Bool.{Bool, cond}
-use mathlib.Core.List.{List, [], _∷_, _++_, map, flatMap}
+use mathlib.Core.Bool.{cond}
+use mathlib.Core.List.{List, [], _∷_, map, flatMap}
 use mathlib.Core.Option.{Option, some, none}
 use Prim.Native.Nat.{ℕ}
 use lib.Dec.{eqb}
-use Rattle.rules.specs.Lists.{keep, setOf}
+use Rattle.rules.specs.Lists.{setOf}
 use Rattle.rules.specs.Pattern.{meetsBoth}
 use Rattle.rules.specs.Listing.{Reader, Read, Gathered, readKeys, keysFrom, candidatesOf, withNode, withEdge, withRow, withRows}
 use Rattle.rules.specs.declared.Row.{Row}
 use Rattle.rules.specs.declared.Entry.{Entry}
-use Rattle.demands.specs.Every.{Every, every-flat, every-map}
+use Rattle.laws.specs.Every.{Every, every-flat, every-map, every-split, keep-alike}
 use Rattle.demands.specs.Reads.{ListRead, keysRead, listsRead, named, AlikeIn}
 
 module _ (r q : Reader) where
@@ -57,12 +57,6 @@ module _ (r q : Reader) where
           add none k = tt
           add (some reads) k = (unfold named in rw e at (h .0 .values), k)
 
-  -- candidates look at the values of nodes that were named
-  keep-alike : (f g : ℕ → Bool) (vs : List ℕ) → Every (λ v. f v ≡ g v) vs → keep f vs ≡ keep g vs
-  unfolding keep Every
-  keep-alike f g [] h = refl
-  keep-alike f g (v ∷ vs) h = rw (h .0, keep-alike f g vs (h .1))
-
   candidates-alike : (b : List ℕ) (u : ℕ) (reads : List Read) → SameValues reads → candidatesOf r b u reads ≡ candidatesOf q b u reads
   unfolding candidatesOf
   candidates-alike b u reads h =
@@ -82,12 +76,6 @@ module _ (r q : Reader) where
       go : (o : Option (List Read)) → SameIn o → after r o ≡ after q o
       go none k = refl
       go (some reads) k = rw (candidates-alike b (row .fetched) reads k)
-
-  -- the lists read for a row, then those for the rows after it
-  every-split : {A : Type 0} (P : A → Type 0) (xs ys : List A) → Every P (xs ++ ys) → Every P xs × Every P ys
-  unfolding Every
-  every-split P [] ys h = (tt, h)
-  every-split P (x ∷ xs) ys h = let k = every-split P xs ys (h .1) in ((h .0, k .0), k .1)
 
   -- what is gathered is the same, and so are the lists that are read
   pub rows-alike : (b : List ℕ) (rows : List Row) (got : Gathered) → Every (AlikeIn r q) (listsRead r b rows got)

@@ -8,10 +8,16 @@ use lib.Dec.{eqb}
 use Rattle.rules.specs.Store.{nodePart, constraintPart, groupPart, entryPart}
 use Rattle.rules.specs.Plan.{rowsOf}
 use Rattle.rules.specs.Listing.{Reader, Gathered, readerOf, nothing, keysFrom, withRow}
-use Rattle.rules.specs.Answers.{listRefusal}
+use Rattle.laws.specs.Outcomes.{listRefusal}
 use Rattle.rules.specs.declared.Row.{Row}
 use Rattle.rules.specs.declared.Entry.{Entry}
-use Rattle.demands.specs.Every.{Every}
+use Rattle.laws.specs.Every.{Every}
+use mathlib.Core.Path.{_≡_}
+use mathlib.Core.Bool.{true, false}
+use mathlib.Core.List.{List, [], _∷_, _++_, map}
+use Prim.Native.Nat.{ℕ}
+use lib.ListN.{length}
+use Rattle.rules.specs.Lists.{sum}
 
 -- ---- what listing reads
 -- a list that is read: its constraint and its key
@@ -47,6 +53,14 @@ callReads s b work = elim (eqb (listRefusal s b work) 0) [ true ↦ storeReads s
 unfoldable pub named : Option (List Entry) → List Entry
 named none = []
 named (some l) = l
+
+-- how many entries a list has, 0 where it is unfit
+abbrev pub entriesOfRead : Reader → ListRead → ℕ
+entriesOfRead r x = length (named (r .list (x .constraint) (x .key)))
+
+-- how many entries some lists have, a list that stands twice counted twice
+unfoldable pub entriesOfReads : Reader → List ListRead → ℕ
+entriesOfReads r xs = sum (map (entriesOfRead r) xs)
 
 -- two readers are alike in a list: both give it the same, and give the same value for each node that it names
 pub record AlikeIn (r q : Reader) (x : ListRead) : Type 0 where

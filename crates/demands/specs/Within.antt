@@ -5,49 +5,36 @@ use native.Mathlib.Nat.{mul-suc, mul-le-mul, mul-le-mul-left}
 use mathlib.Core.Path.{_≡_, refl, sym, ap, _∙_}
 use mathlib.Core.Bool.{Bool, true, false, cond}
 use mathlib.Core.List.{List, [], _∷_, _++_, map, flatMap}
-use mathlib.Core.Option.{Option, some, none}
+use mathlib.Core.Option.{Option, some, none, Option·some-injective, Option·none-ne-some}
 use Prim.Native.Nat.{ℕ, zero, suc, _+_, _*_, _≤_, _<_}
 use lib.Dec.{eqb}
 use lib.ListN.{length, getD, set, replicate, length-append, length-map, length-set, length-replicate}
 use lib.Seq.{getD-set-same, getD-set-other}
 use borrow.Author.Tests.{eqb-true, eq-eqb, ne-eqb}
-use Rattle.rules.specs.Lists.{range, keep, sum, product, choices, sortOf, uniqAfter, uniq, setOf}
+use Rattle.rules.specs.Lists.{range, keep, sum, product, choices}
 use Rattle.rules.specs.Store.{constraintAt}
 use Rattle.rules.specs.Pattern.{sizeOf, edgesOf, meetsBoth}
 use Rattle.rules.specs.Plan.{chosenOf, noFigures, figureOf, figureBy, smallest, allWays, figuresWith, figuresAfter, nodeRowsFrom, nodeRows, figuresOf, edgeWays, listed, edgeRows, rowsOf, bound}
-use Rattle.rules.specs.Listing.{Reader, Read, readFound, readerOf, listPart, entryAt, ruleBroken, entryList, readKeys, entriesRead, Gathered, nothing, keysFrom, candidatesOf, withNode, withEdge, withRow, withRows}
+use Rattle.rules.specs.Listing.{Reader, Read, readFound, readerOf, listPart, ruleBroken, entryList, readKeys, entriesRead, Gathered, nothing, keysFrom, candidatesOf, withNode, withEdge, withRow, withRows}
 use Rattle.rules.specs.declared.Constraint.{Constraint}
 use Rattle.rules.specs.declared.Row.{Row}
 use Rattle.rules.specs.declared.Entry.{Entry}
 use Rattle.rules.specs.declared.Found.{Found}
 use Rattle.rules.specs.declared.Found.the-variants.{At, Nothing}
-use Rattle.laws.specs.Sets.{length-sort}
-use Rattle.laws.specs.Keeping.{keep-most}
+use Rattle.laws.specs.Keep.{keep-most}
 use Rattle.laws.specs.Fitness.{fit-most}
 use Rattle.laws.specs.Covering.{rows-next, rows-stop, rows-zero}
 use Rattle.laws.specs.PatternLaws.{RightPattern}
-use Rattle.demands.specs.Every.{choices-length}
-use Rattle.demands.specs.Ways.{Fetches, next-row, edge-row}
+use Rattle.laws.specs.Choices.{choices-length}
+use Rattle.laws.specs.Rows.{Fetches, next-row, edge-row}
+use Rattle.laws.specs.Sets.{set-few}
+use Rattle.laws.specs.GroupBytes.{length-entries}
+use Rattle.laws.specs.Sums.{sum-both}
 
 -- ---- lists have at most N entries
 -- no list of a reader has more than its constraint's N
 pub record Short (constraints : List ℕ) (r : Reader) : Type 0 where
   pub most : (c : ℕ) (key : List ℕ) (l : List Entry) → r .list c key ≡ some l → length l ≤ constraintAt constraints c .most
-
-length-range : (k n : ℕ) → length (range k n) ≡ n
-unfolding range
-length-range k zero = refl
-length-range k (suc n) = ap suc (length-range (k + 1) n)
-
-none-never : {A : Type 0} (y : A) → none ≡ some y → ⊥
-none-never y e = let z : _≡_ {A = ℕ} 0 1 = cc in omega arith
-
-some-same : {A : Type 0} (x y : A) → some x ≡ some y → x ≡ y
-some-same x y e = cc
-
-entries-count : (list : List ℕ) (count : ℕ) → length (entryList list count) ≡ count
-unfolding entryList
-entries-count list count = length-map (range 0 count) (entryAt list) ∙ length-range 0 count
 
 found-short : (nodes : List ℕ) (c : Constraint) (entries : List ℕ) (f : Found) (l : List Entry) → readFound nodes c entries f ≡ some l → length l ≤ c .most
 unfolding readFound
@@ -55,10 +42,10 @@ found-short nodes c entries (At start count) l e = go (eqb (ruleBroken nodes c e
   where
     go : (t : Bool) → eqb (ruleBroken nodes c entries start count) 0 ≡ t → cond t (some (entryList (listPart entries start count) count)) none ≡ some l → length l ≤ c .most
     go true b q =
-        let size = ap length (some-same (entryList (listPart entries start count) count) l q) in
-        omega (arith, entries-count (listPart entries start count) count, fit-most nodes c entries start count (eqb-true (ruleBroken nodes c entries start count) 0 b))
-    go false b q = absurd (none-never l q)
-found-short nodes c entries Nothing l e = rw (sym (some-same [] l e)) (omega arith)
+        let size = ap length (Option·some-injective (entryList (listPart entries start count) count) l q) in
+        omega (arith, length-entries (listPart entries start count) count, fit-most nodes c entries start count (eqb-true (ruleBroken nodes c entries start count) 0 b))
+    go false b q = absurd (Option·none-ne-some l q)
+found-short nodes c entries Nothing l e = rw (sym (Option·some-injective [] l e)) (omega arith)
 
 -- so too of the reader of any store
 pub reader-short : (nodes constraints groups entries : List ℕ) → Short constraints (readerOf nodes constraints groups entries)
@@ -66,23 +53,6 @@ unfolding readerOf
 reader-short nodes constraints groups entries = record { most = λ c key l e. found-short nodes (constraintAt constraints c) entries _ l e }
 
 -- ---- sets are no longer than what they are made of
-uniq-few : (x : ℕ) (l : List ℕ) → length (uniqAfter x l) ≤ length l
-unfolding uniqAfter
-uniq-few x [] = omega arith
-uniq-few x (y ∷ l) = go (eqb x y) (uniq-few y l)
-  where
-    go : (t : Bool) → length (uniqAfter y l) ≤ length l → length (cond t [] (y ∷ []) ++ uniqAfter y l) ≤ suc (length l)
-    go true h = omega arith
-    go false h = omega arith
-
-set-few : (l : List ℕ) → length (setOf l) ≤ length l
-unfolding setOf uniq
-set-few l = go (sortOf l) (length-sort l)
-  where
-    go : (s : List ℕ) → length s ≡ length l → length (uniq s) ≤ length l
-    go [] e = omega arith
-    go (x ∷ s) e = let h = uniq-few x s in omega arith
-
 nodes-length : (reads : List Read) → length (flatMap (λ x. map (λ e. e .node) (x .entries)) reads) ≡ entriesRead reads
 unfolding flatMap entriesRead sum
 nodes-length [] = refl
@@ -109,18 +79,18 @@ read-one x reads = refl
 module _ {constraints : List ℕ} {r : Reader} (short : Short constraints r) where
   keys-short : (c : ℕ) (keys : List (List ℕ)) (reads : List Read) → readKeys r c keys ≡ some reads → entriesRead reads ≤ constraintAt constraints c .most * length keys
   unfolding readKeys
-  keys-short c [] reads e = rw (sym (some-same [] reads e), read-none) (omega arith)
+  keys-short c [] reads e = rw (sym (Option·some-injective [] reads e), read-none) (omega arith)
   keys-short c (key ∷ keys) reads e = go (r .list c key) refl (readKeys r c keys) (keys-short c keys) e
     where
       go : (o : Option (List Entry)) → r .list c key ≡ o → (q : Option (List Read)) → ((reads : List Read) → q ≡ some reads → entriesRead reads ≤ constraintAt constraints c .most * length keys)
           → elim o [ none ↦ none | some l ↦ elim q [ none ↦ none | some reads ↦ some (record { key = key; entries = l } ∷ reads) ] ] ≡ some reads
           → entriesRead reads ≤ constraintAt constraints c .most * suc (length keys)
-      go none a q ih x = absurd (none-never reads x)
-      go (some l) a none ih x = absurd (none-never reads x)
+      go none a q ih x = absurd (Option·none-ne-some reads x)
+      go (some l) a none ih x = absurd (Option·none-ne-some reads x)
       go (some l) a (some later) ih x =
           let k = ih later refl in
           let m = short .most c key l a in
-          rw (sym (some-same (record { key = key; entries = l } ∷ later) reads x), mul-suc (constraintAt constraints c .most) (length keys), read-one) (omega arith)
+          rw (sym (Option·some-injective (record { key = key; entries = l } ∷ later) reads x), mul-suc (constraintAt constraints c .most) (length keys), read-one) (omega arith)
 
   -- ---- one row
   product-few : (figures : List ℕ) (got : Gathered) → ((u : ℕ) → length (getD (got .candidates) u []) ≤ getD figures u 0) → (ws : List ℕ)
@@ -150,8 +120,8 @@ row-given r b got row next e = go (readKeys r (row .constraint) (keysFrom got ro
   where
     go : (o : Option (List Read)) → readKeys r (row .constraint) (keysFrom got row) ≡ o
         → elim o [ none ↦ none | some reads ↦ some (cond (eqb (row .kind) 0) (withNode r b got row reads) (withEdge b got row reads)) ] ≡ some next → RowGiven r b got row next
-    go none a q = absurd (none-never next q)
-    go (some reads) a q = record { reads = reads; keys = a; is = sym (some-same _ next q) }
+    go none a q = absurd (Option·none-ne-some next q)
+    go (some reads) a q = record { reads = reads; keys = a; is = sym (Option·some-injective _ next q) }
 
 record RowsGiven (r : Reader) (b : List ℕ) (got : Gathered) (row : Row) (rows : List Row) (last : Gathered) : Type 0 where
   next : Gathered
@@ -163,18 +133,13 @@ unfolding withRows
 rows-given r b got row rows last e = go (withRow r b got row) refl e
   where
     go : (o : Option Gathered) → withRow r b got row ≡ o → elim o [ none ↦ none | some next ↦ withRows r b rows next ] ≡ some last → RowsGiven r b got row rows last
-    go none a q = absurd (none-never last q)
+    go none a q = absurd (Option·none-ne-some last q)
     go (some next) a q = record { next = next; here = row-given r b got row next a; later = q }
 
 -- ---- all rows
 -- the sum of the figures of some rows
 abbrev figures-sum : List Row → ℕ
 figures-sum rows = sum (map (λ r. r .figure) rows)
-
-sum-append : (xs ys : List Row) → figures-sum (xs ++ ys) ≡ figures-sum xs + figures-sum ys
-unfolding sum
-sum-append [] ys = omega arith
-sum-append (x ∷ xs) ys = omega (arith, sum-append xs ys)
 
 -- entries read so far
 abbrev readSoFar : Gathered → ℕ
@@ -193,7 +158,7 @@ none-at zero u = refl
 none-at (suc n) zero = refl
 none-at (suc n) (suc u) = none-at n u
 
--- no node has more candidates than its figure
+-- no node has more candidates than its figure, in a list for each pattern node (Gathers.Gets says as much of another state)
 record Kept (b figures : List ℕ) (got : Gathered) : Type 0 where
   size : length figures ≡ 8
   long : length (got .candidates) ≡ sizeOf b
@@ -261,7 +226,7 @@ module _ {constraints b : List ℕ} {r : Reader} (short : Short constraints r) (
       → readSoFar last ≤ readSoFar got + figures-sum (flatMap (λ j. listed (smallest (edgeWays constraints b figures j))) (range k n))
   unfolding flatMap range listed sum
   edges-within figures zero k got last l kept e =
-      let same : got ≡ last = some-same got last (unfold withRows in e) in
+      let same : got ≡ last = Option·some-injective got last (unfold withRows in e) in
       rw (← same) (omega arith)
   edges-within figures (suc n) k got last l kept e = go (smallest (edgeWays constraints b figures k)) refl e (λ next. edges-within figures n (k + 1) next last (omega arith))
     where
@@ -295,4 +260,4 @@ module _ {constraints b : List ℕ} {r : Reader} (short : Short constraints r) (
       let first = nodes-within (sizeOf b) noFigures (nothing b) got edges nothing-kept e in
       let second = edges-within figures (edgesOf b) 0 (first .mid) got (omega arith) (first .kept) (first .later) in
       let none-yet : readSoFar (nothing b) ≡ 0 = unfold nothing in refl in
-      omega (arith, first .total, sum-append (nodeRowsFrom constraints b (sizeOf b) noFigures) edges)
+      omega (arith, first .total, sum-both (λ r. r .figure) (nodeRowsFrom constraints b (sizeOf b) noFigures) edges)

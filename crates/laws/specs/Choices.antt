@@ -1,179 +1,157 @@
--- The smallest way among all choices of one node from each list: the best node of each list. Assumes nothing.
+-- Laws of `choices`: one element from each list. Assumes nothing.
 use mathlib.Core.Path.{_≡_, refl, sym, ap, _∙_}
-use mathlib.Core.Bool.{Bool, true, false, cond, not, _&&_, _||_, false≢true}
-use mathlib.Core.List.{List, [], _∷_, _++_, map, flatMap, map-append}
-use mathlib.Core.Option.{Option, some, none}
-use Prim.Native.Nat.{ℕ, suc, _+_, _*_, _≤_, _<_}
-use native.Mathlib.Decide.{decLe}
-use native.Mathlib.Nat.{mul-assoc, mul-pos, mul-le-mul-left, mul-le-mul-right, mul-lt-mul-of-pos-left, mul-lt-mul-of-pos-right}
+use mathlib.Core.Bool.{Bool, true, false, cond, _&&_, _||_, false≢true, true≢false}
+use mathlib.Core.List.{List, [], _∷_, _++_, map, flatMap}
+use Prim.Native.Nat.{ℕ, suc, _*_}
 use native.Mathlib.Omega.{arith}
-use lib.Dec.{ltb, eqb}
-use lib.ListN.{getD}
-use borrow.Author.Tests.{lt-ltb, le-ltb, eqb-false, not-true}
-use Rattle.rules.specs.Lists.{range, keep, all, any, has, product, choices}
-use Rattle.rules.specs.Plan.{smaller, smallest, rowOf}
-use Rattle.rules.specs.declared.Row.{Row}
+use lib.Dec.{eqb}
+use lib.ListN.{length, length-append, length-map}
+use borrow.Author.Tests.{eqb-true}
+use native.Mathlib.Nat.{add-comm, zero-mul, suc-mul}
+use Rattle.rules.specs.Lists.{all, any, keep, has, product, choices}
+use Rattle.laws.specs.Strict.{From, below}
 use Rattle.laws.specs.Cases.{first-holds, second-holds}
-use Rattle.laws.specs.Smallest.{better, better-none, smallest-append}
+use Rattle.laws.specs.All.{all-flat, all-mapped, all-member, all-weaken}
+use Rattle.laws.specs.Keep.{flat-keep, keep-flat}
+use Rattle.laws.specs.Beside.{Beside}
+use Rattle.laws.specs.Every.{Every, every-flat, every-map, every-member}
+use Rattle.laws.specs.Any.{any-flat, any-map, any-member}
+use Rattle.laws.specs.Map.{flat-nil, flat-same}
 
--- a node by itself as a way, with its figure
-abbrev pub nodeOnly : (ℕ → ℕ) → ℕ → Row
-nodeOnly f w = rowOf 0 w w 0 [] (f w)
-
--- the best node of a list
-abbrev pub least : (ℕ → ℕ) → List ℕ → Option Row
-least f xs = smallest (map (nodeOnly f) xs)
-
--- what is made of the best way, if there is one
-abbrev pub via : {A B : Type 0} → (A → B) → Option A → Option B
-via g none = none
-via g (some a) = some (g a)
-
--- the best node of each list, if each has one
-unfoldable pub leastEach : (ℕ → ℕ) → List (List ℕ) → Option (List ℕ)
-leastEach f [] = some []
-leastEach f (xs ∷ rest) = elim (least f xs) [ none ↦ none | some r ↦ via (λ c. r .number ∷ c) (leastEach f rest) ]
-
-positive : (n : ℕ) → (n ≡ 0 → ⊥) → 0 < n
-positive n h = go (decLe 1 n)
+pub choices-all : (p : ℕ → Bool) (lists : List (List ℕ)) → all (all p) lists ≡ true → all (all p) (choices lists) ≡ true
+unfolding choices all
+choices-all p [] h = refl
+choices-all p (xs ∷ rest) h = go (first-holds (all p xs) (all (all p) rest) h) (choices-all p rest (second-holds (all p xs) (all (all p) rest) h))
   where
-    go : Dec (1 ≤ n) → 0 < n
-    go (yes k) = k
-    go (no k) = absurd (h (omega arith))
+    go : all p xs ≡ true → all (all p) (choices rest) ≡ true → all (all p) (flatMap (λ x. map (λ c. x ∷ c) (choices rest)) xs) ≡ true
+    go a ih =
+        all-flat (all p) (λ x. map (λ c. x ∷ c) (choices rest)) xs
+        (λ x k. all-mapped (all p) (λ c. x ∷ c) (choices rest)
+        ∙ all-weaken (all p) (λ c. p x && all p c) (choices rest) (λ c e. rw (all-member p x xs a k) e) ih)
 
--- ---- what the best node of a list is: its figure is its own, and not 0 where none is
-module _ (f : ℕ → ℕ) where
-  abbrev pub Good : Row → Type 0
-  Good r = (r .figure ≡ f (r .number)) × (0 < f (r .number))
+-- each choice takes its members from the lists
+pub choices-beside : (f : ℕ → List ℕ) (xs : List ℕ) → Every (Beside (λ x y. has y (f x) ≡ true) xs) (choices (map f xs))
+unfolding Every Beside choices
+choices-beside f [] = (tt, tt)
+choices-beside f (x ∷ xs) =
+    every-flat _ (λ y. has y (f x) ≡ true) (λ y. map (λ c. y ∷ c) (choices (map f xs)))
+    (λ y k. every-map _ (Beside (λ x y. has y (f x) ≡ true) xs) (λ c. y ∷ c) (λ c q. (k, q)) (choices (map f xs)) (choices-beside f xs)) (f x)
+    (every-member (λ y. has y (f x) ≡ true) (f x) (λ y k. k))
 
-  abbrev pub GoodIf : Option Row → Type 0
-  GoodIf none = Unit {0}
-  GoodIf (some r) = Good r
+-- a choice of one member from each list is among them
+pub choices-any : (p : List ℕ → Bool) (f : ℕ → List ℕ) (h : ℕ → ℕ) (xs : List ℕ) → Every (λ x. has (h x) (f x) ≡ true) xs → p (map h xs) ≡ true → any p (choices (map f xs)) ≡ true
+unfolding Every choices
+choices-any p f h [] k e = unfold any in rw e
+choices-any p f h (x ∷ xs) k e =
+    any-flat p (λ y. map (λ c. y ∷ c) (choices (map f xs))) (f x)
+    ∙ any-member (λ y. any p (map (λ c. y ∷ c) (choices (map f xs)))) (h x) (f x) (k .0)
+    (any-map p (λ c. h x ∷ c) (choices (map f xs)) ∙ choices-any (λ c. p (h x ∷ c)) f h xs (k .1) e)
 
-  good-pick : (x : ℕ) (o : Option Row) → GoodIf o → 0 < f x → Good (smaller (nodeOnly f x) o)
-  unfolding smaller rowOf
-  good-pick x none g k = (refl, k)
-  good-pick x (some r) g k = go (ltb (r .figure) (f x))
-    where
-      go : (t : Bool) → Good (cond t r (nodeOnly f x))
-      go true = g
-      go false = (refl, k)
-
-  pub least-good : (xs : List ℕ) → all (λ w. not (eqb (f w) 0)) xs ≡ true → GoodIf (least f xs)
-  unfolding all smallest
-  least-good [] h = tt
-  least-good (x ∷ xs) h = go (eqb (f x) 0) refl h (least-good xs)
-    where
-      go : (t : Bool) → eqb (f x) 0 ≡ t → (not t && all (λ w. not (eqb (f w) 0)) xs) ≡ true
-          → (all (λ w. not (eqb (f w) 0)) xs ≡ true → GoodIf (least f xs)) → GoodIf (least f (x ∷ xs))
-      go true e h ih = absurd (false≢true h)
-      go false e h ih = good-pick x (least f xs) (ih h) (positive (f x) (eqb-false (f x) 0 e))
-
-  -- the chosen nodes have figures that are not 0, so neither is their product
-  abbrev PositiveIf : Option (List ℕ) → Type 0
-  PositiveIf none = Unit {0}
-  PositiveIf (some c) = 0 < product (map f c)
-
-  pub each-positive : (lists : List (List ℕ)) → all (all (λ w. not (eqb (f w) 0))) lists ≡ true → PositiveIf (leastEach f lists)
-  unfolding all leastEach product
-  each-positive [] h = omega arith
-  each-positive (xs ∷ lists) h =
-      go (least f xs) refl (least-good xs (first-holds _ (all (all (λ w. not (eqb (f w) 0))) lists) h)) (leastEach f lists)
-      (each-positive lists (second-holds (all (λ w. not (eqb (f w) 0)) xs) _ h))
-    where
-      go : (o : Option Row) → least f xs ≡ o → GoodIf (least f xs) → (rest : Option (List ℕ)) → PositiveIf rest
-          → PositiveIf (elim o [ none ↦ none | some r ↦ via (λ c. r .number ∷ c) rest ])
-      go none e g rest k = tt
-      go (some r) e g none k = tt
-      go (some r) e g (some c) k =
-          let good : Good r = rw e at g in
-          mul-pos (good .1) k
-
--- ---- the smallest way among all choices
--- a common factor changes no comparison
-factor : (n P x y : ℕ) → 0 < n → 0 < P → ltb (n * (x * P)) (n * (y * P)) ≡ ltb x y
-factor n P x y hn hP = go (decLe y x)
-  where
-    go : Dec (y ≤ x) → ltb (n * (x * P)) (n * (y * P)) ≡ ltb x y
-    go (yes h) = le-ltb (n * (x * P)) (n * (y * P)) (mul-le-mul-left n (mul-le-mul-right P h)) ∙ sym (le-ltb x y h)
-    go (no h) =
-        let k : x < y = omega arith in
-        lt-ltb (n * (x * P)) (n * (y * P)) (mul-lt-mul-of-pos-left (mul-lt-mul-of-pos-right k hP) hn) ∙ sym (lt-ltb x y k)
-
-map-flat : {A B : Type 0} (g : A → B) (h : ℕ → List A) (xs : List ℕ) → map g (flatMap h xs) ≡ flatMap (λ x. map g (h x)) xs
+-- how many there are
+pub flat-length : (cs : List (List ℕ)) (xs : List ℕ) → length (flatMap (λ x. map (λ c. x ∷ c) cs) xs) ≡ length xs * length cs
 unfolding flatMap
-map-flat g h [] = refl
-map-flat g h (x ∷ xs) = map-append g (h x) (flatMap h xs) ∙ ap (λ l. map g (h x) ++ l) (map-flat g h xs)
+flat-length cs [] = sym (zero-mul (length cs))
+flat-length cs (x ∷ xs) =
+    length-append (map (λ c. x ∷ c) cs) (flatMap (λ x. map (λ c. x ∷ c) cs) xs)
+    ∙ rw (length-map cs (λ c. x ∷ c), flat-length cs xs, suc-mul) (add-comm (length cs) (length xs * length cs))
 
-map-map : {A B C : Type 0} (g : B → C) (h : A → B) (xs : List A) → map g (map h xs) ≡ map (λ x. g (h x)) xs
-map-map g h [] = refl
-map-map g h (x ∷ xs) = ap (λ l. g (h x) ∷ l) (map-map g h xs)
+pub choices-length : (lists : List (List ℕ)) → length (choices lists) ≡ product (map length lists)
+unfolding choices product
+choices-length [] = refl
+choices-length (xs ∷ lists) = flat-length (choices lists) xs ∙ ap (λ n. length xs * n) (choices-length lists)
 
--- the way that the best node of a list leads to, with the best choice for the other lists
-abbrev lead : (List ℕ → Row) → Option (List ℕ) → Option Row → Option Row
-lead mk rest none = none
-lead mk rest (some r) = via (λ c. mk (r .number ∷ c)) rest
-
-module _ (f : ℕ → ℕ) (n : ℕ) (hn : 0 < n) (mk : List ℕ → Row) (figure : (c : List ℕ) → mk c .figure ≡ n * product (map f c)) where
-  -- one node more in front
-  lead-more : (c : List ℕ) → 0 < product (map f c) → (x : ℕ) (o : Option Row) → GoodIf f o
-      → better (some (mk (x ∷ c))) (lead mk (some c) o) ≡ lead mk (some c) (some (smaller (nodeOnly f x) o))
-  unfolding smaller rowOf product
-  lead-more c k x none g = refl
-  lead-more c k x (some r) g = ap some (rw test (sym (pick (ltb (r .figure) (f x)))))
-    where
-      test : ltb (mk (r .number ∷ c) .figure) (mk (x ∷ c) .figure) ≡ ltb (r .figure) (f x)
-      test = rw (figure (r .number ∷ c), figure (x ∷ c), g .0) (factor n (product (map f c)) (f (r .number)) (f x) hn k)
-
-      pick : (t : Bool) → mk ((cond t r (nodeOnly f x)) .number ∷ c) ≡ cond t (mk (r .number ∷ c)) (mk (x ∷ c))
-      pick true = refl
-      pick false = refl
-
-  held : (x : ℕ) → not (eqb (f x) 0) ≡ true → 0 < f x
-  held x h = positive (f x) (eqb-false (f x) 0 (not-true (eqb (f x) 0) h))
-
-  -- every node of the list leads to the same choice for the others
-  first-best : (rest : Option (List ℕ)) → PositiveIf f rest → (h : ℕ → List Row) → ((x : ℕ) → 0 < f x → smallest (h x) ≡ via (λ c. mk (x ∷ c)) rest)
-      → (xs : List ℕ) → all (λ w. not (eqb (f w) 0)) xs ≡ true → smallest (flatMap h xs) ≡ lead mk rest (least f xs)
-  unfolding flatMap smallest all
-  first-best rest k h each [] pos = refl
-  first-best none k h each (x ∷ xs) pos =
-      smallest-append (h x) (flatMap h xs)
-      ∙ rw (each x (held x (first-holds (not (eqb (f x) 0)) _ pos))) (first-best none k h each xs (second-holds (not (eqb (f x) 0)) _ pos) ∙ nothing (least f xs))
-    where
-      nothing : (o : Option Row) → lead mk none o ≡ none
-      nothing none = refl
-      nothing (some r) = refl
-  first-best (some c) k h each (x ∷ xs) pos =
-      let later = second-holds (not (eqb (f x) 0)) (all (λ w. not (eqb (f w) 0)) xs) pos in
-      smallest-append (h x) (flatMap h xs)
-      ∙ rw (each x (held x (first-holds (not (eqb (f x) 0)) _ pos)), first-best (some c) k h each xs later) (lead-more c k x (least f xs) (least-good f xs later))
-
-each-lead : (f : ℕ → ℕ) (mk : List ℕ → Row) (xs : List ℕ) (rest : List (List ℕ)) → lead mk (leastEach f rest) (least f xs) ≡ via mk (leastEach f (xs ∷ rest))
-unfolding leastEach
-each-lead f mk xs rest = go (least f xs) (leastEach f rest)
+-- ---- the choices that have a given element: it is fixed in the list that has it
+keep-none : (o : ℕ) (xs : List ℕ) → has o xs ≡ false → keep (eqb o) xs ≡ []
+unfolding keep has
+keep-none o [] h = refl
+keep-none o (x ∷ xs) h = go (eqb o x) refl h (keep-none o xs)
   where
-    go : (o : Option Row) (c : Option (List ℕ)) → lead mk c o ≡ via mk (elim o [ none ↦ none | some r ↦ via (λ c. r .number ∷ c) c ])
-    go none c = refl
-    go (some r) none = refl
-    go (some r) (some c) = refl
+    go : (t : Bool) → eqb o x ≡ t → (t || has o xs) ≡ false → (has o xs ≡ false → keep (eqb o) xs ≡ []) → keep (eqb o) (x ∷ xs) ≡ []
+    go true e h ih = absurd (true≢false h)
+    go false e h ih = rw e (ih h)
 
--- the smallest way is the one that takes the best node of each list
-pub each-smallest : (f : ℕ → ℕ) (lists : List (List ℕ)) → all (all (λ w. not (eqb (f w) 0))) lists ≡ true
-    → (n : ℕ) → 0 < n → (mk : List ℕ → Row) → ((c : List ℕ) → mk c .figure ≡ n * product (map f c))
-    → smallest (map mk (choices lists)) ≡ via mk (leastEach f lists)
-unfolding choices all smallest smaller leastEach product
-each-smallest f [] pos n hn mk figure = refl
-each-smallest f (xs ∷ lists) pos n hn mk figure =
-    let own = first-holds (all (λ w. not (eqb (f w) 0)) xs) (all (all (λ w. not (eqb (f w) 0))) lists) pos in
-    let others = second-holds (all (λ w. not (eqb (f w) 0)) xs) (all (all (λ w. not (eqb (f w) 0))) lists) pos in
-    ap smallest (map-flat mk (λ x. map (λ c. x ∷ c) (choices lists)) xs)
-    ∙ first-best f n hn mk figure (leastEach f lists) (each-positive f lists others) (λ x. map mk (map (λ c. x ∷ c) (choices lists)))
-    (each (each-smallest f lists others)) xs own
-    ∙ each-lead f mk xs lists
+with-o : (o x : ℕ) → eqb o x ≡ true → (cs : List (List ℕ)) → keep (has o) (map (λ c. x ∷ c) cs) ≡ map (λ c. x ∷ c) cs
+unfolding keep has
+with-o o x e [] = refl
+with-o o x e (c ∷ cs) = rw e (ap (λ l. (x ∷ c) ∷ l) (with-o o x e cs))
+
+without-o : (o x : ℕ) → eqb o x ≡ false → (cs : List (List ℕ)) → keep (has o) (map (λ c. x ∷ c) cs) ≡ map (λ c. x ∷ c) (keep (has o) cs)
+unfolding keep has
+without-o o x e [] = refl
+without-o o x e (c ∷ cs) = rw e (go (has o c) (without-o o x e cs))
   where
-    each : ((n : ℕ) → 0 < n → (mk : List ℕ → Row) → ((c : List ℕ) → mk c .figure ≡ n * product (map f c)) → smallest (map mk (choices lists)) ≡ via mk (leastEach f lists))
-        → (x : ℕ) → 0 < f x → smallest (map mk (map (λ c. x ∷ c) (choices lists))) ≡ via (λ c. mk (x ∷ c)) (leastEach f lists)
-    each ih x h =
-        ap smallest (map-map mk (λ c. x ∷ c) (choices lists))
-        ∙ ih (n * f x) (mul-pos hn h) (λ c. mk (x ∷ c)) (λ c. figure (x ∷ c) ∙ sym (mul-assoc n (f x) (product (map f c))))
+    go : (t : Bool) → keep (has o) (map (λ c. x ∷ c) cs) ≡ map (λ c. x ∷ c) (keep (has o) cs)
+        → cond t ((x ∷ c) ∷ []) [] ++ keep (has o) (map (λ c. x ∷ c) cs) ≡ map (λ c. x ∷ c) (cond t (c ∷ []) [] ++ keep (has o) cs)
+    go true ih = ap (λ l. (x ∷ c) ∷ l) ih
+    go false ih = ih
+
+-- a list in which o is the only one left, if it is there
+abbrev pub narrow : ℕ → List ℕ → List ℕ
+narrow o xs = cond (has o xs) (o ∷ []) xs
+
+-- o stands in one of the lists at most, and once there
+unfoldable pub Once : ℕ → List (List ℕ) → Type 0
+Once o [] = Unit {0}
+Once o (xs ∷ rest) = (has o xs ≡ true → (any (has o) rest ≡ false) × (keep (eqb o) xs ≡ o ∷ [])) × Once o rest
+
+narrow-none : (o : ℕ) (lists : List (List ℕ)) → any (has o) lists ≡ false → map (narrow o) lists ≡ lists
+unfolding any
+narrow-none o [] h = refl
+narrow-none o (xs ∷ lists) h = go (has o xs) refl h (narrow-none o lists)
+  where
+    go : (t : Bool) → has o xs ≡ t → (t || any (has o) lists) ≡ false → (any (has o) lists ≡ false → map (narrow o) lists ≡ lists)
+        → map (narrow o) (xs ∷ lists) ≡ xs ∷ lists
+    go true e h ih = absurd (true≢false h)
+    go false e h ih = rw e (ap (λ l. xs ∷ l) (ih h))
+
+-- o is the one node of the list that counts, since none of the other choices has it
+one-node : (o : ℕ) (cs : List (List ℕ)) (xs : List ℕ) → keep (eqb o) xs ≡ o ∷ [] → keep (has o) cs ≡ []
+    → flatMap (λ x. keep (has o) (map (λ c. x ∷ c) cs)) xs ≡ map (λ c. o ∷ c) cs ++ []
+unfolding flatMap
+one-node o cs xs one gone =
+    flat-same (λ x. keep (has o) (map (λ c. x ∷ c) cs)) (λ x. cond (eqb o x) (map (λ c. x ∷ c) cs) []) xs (λ x h. pick x (eqb o x) refl)
+    ∙ sym (flat-keep (λ x. map (λ c. x ∷ c) cs) (eqb o) xs)
+    ∙ ap (flatMap (λ x. map (λ c. x ∷ c) cs)) one
+  where
+    pick : (x : ℕ) (t : Bool) → eqb o x ≡ t → keep (has o) (map (λ c. x ∷ c) cs) ≡ cond t (map (λ c. x ∷ c) cs) []
+    pick x true e = with-o o x e cs
+    pick x false e = without-o o x e cs ∙ rw gone
+
+-- o is not in the list, so that the other choices decide
+not-here : (o : ℕ) (xs : List ℕ) (x : ℕ) → has o xs ≡ false → has x xs ≡ true → eqb o x ≡ false
+not-here o xs x h k = go (eqb o x) refl
+  where
+    go : (t : Bool) → eqb o x ≡ t → eqb o x ≡ false
+    go true e = absurd (true≢false (sym k ∙ ap (λ z. has z xs) (sym (eqb-true o x e)) ∙ h))
+    go false e = e
+
+no-node : (o : ℕ) (cs : List (List ℕ)) (xs : List ℕ) → has o xs ≡ false
+    → flatMap (λ x. keep (has o) (map (λ c. x ∷ c) cs)) xs ≡ flatMap (λ x. map (λ c. x ∷ c) (keep (has o) cs)) xs
+no-node o cs xs h = flat-same _ _ xs (λ x k. without-o o x (not-here o xs x h k) cs)
+
+pub keep-has : (o : ℕ) (lists : List (List ℕ)) → Once o lists
+    → keep (has o) (choices lists) ≡ cond (any (has o) lists) (choices (map (narrow o) lists)) []
+unfolding any choices Once keep has flatMap
+keep-has o [] once = refl
+keep-has o (xs ∷ rest) once = keep-flat (has o) (λ x. map (λ c. x ∷ c) (choices rest)) xs ∙ go (has o xs) refl (any (has o) rest) refl (keep-has o rest (once .1))
+  where
+    go : (t : Bool) → has o xs ≡ t → (a : Bool) → any (has o) rest ≡ a
+        → keep (has o) (choices rest) ≡ cond (any (has o) rest) (choices (map (narrow o) rest)) []
+        → flatMap (λ x. keep (has o) (map (λ c. x ∷ c) (choices rest))) xs ≡ cond (has o xs || any (has o) rest) (choices (narrow o xs ∷ map (narrow o) rest)) []
+    go true e a ea ih =
+        let o1 = once .0 e in
+        one-node o (choices rest) xs (o1 .1) (ih ∙ rw (o1 .0)) ∙ rw (e, narrow-none o rest (o1 .0))
+    go false e true ea ih = no-node o (choices rest) xs e ∙ rw (e, ih, ea)
+    go false e false ea ih = no-node o (choices rest) xs e ∙ rw (e, ih, ea) (flat-nil xs)
+
+-- in a strictly ascending list a node that is there stands once
+pub strict-once : (n : ℕ) (xs : List ℕ) (o : ℕ) → From n xs → has o xs ≡ true → keep (eqb o) xs ≡ o ∷ []
+unfolding From keep has
+strict-once n [] o f h = absurd (false≢true h)
+strict-once n (x ∷ xs) o f h = go (eqb o x) refl h (strict-once (suc x) xs o (f .1))
+  where
+    go : (t : Bool) → eqb o x ≡ t → (t || has o xs) ≡ true → (has o xs ≡ true → keep (eqb o) xs ≡ o ∷ []) → keep (eqb o) (x ∷ xs) ≡ o ∷ []
+    go true e h ih =
+        let q = eqb-true o x e in
+        rw (e, keep-none o xs (rw (← q) at (below x (suc x) xs (f .1) (omega arith))), q)
+    go false e h ih = rw e (ih h)

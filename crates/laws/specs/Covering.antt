@@ -1,27 +1,33 @@
 -- Which pattern nodes and edges are covered: the node rows go on as far as they can, and what they cover depends neither on the order of the steps nor on the figures. Assumes nothing.
 use mathlib.Core.Path.{_≡_, refl, sym, ap, _∙_}
-use mathlib.Core.Bool.{Bool, true, false, cond, not, _&&_, _||_, false≢true, or-true}
-use mathlib.Core.List.{List, [], _∷_, _++_, map, flatMap}
+use mathlib.Core.Bool.{Bool, true, false, cond, not, _&&_, _||_, false≢true}
+use mathlib.Core.List.{List, [], _∷_, map, flatMap}
 use mathlib.Core.Option.{Option, some, none}
-use Prim.Native.Nat.{ℕ, zero, suc, _+_, _*_, _≤_, _<_}
+use Prim.Native.Nat.{ℕ, zero, suc, _*_, _≤_, _<_}
 use native.Mathlib.Decide.{decLe, ℕ-discrete}
 use native.Mathlib.Nat.{mul-pos}
 use native.Mathlib.Omega.{arith}
-use lib.Dec.{eqb, ltb, leb}
+use lib.Dec.{eqb}
 use lib.ListN.{length, getD, set, length-set, getD-replicate, List·getD-eq-default}
 use lib.Seq.{getD-set-same, getD-set-other, set-out}
-use borrow.Author.Tests.{eqb-true, eqb-false, eq-eqb, ne-eqb, leb-true, not-true}
+use borrow.Author.Tests.{eqb-true, eqb-false, eq-eqb, ne-eqb, not-true}
 use Rattle.rules.specs.Lists.{all, any, allFrom, keep, has, range, product, choices}
-use Rattle.rules.specs.Store.{constraintsIn, constraintAt, labelsOf, labelAfter, constraintAlone, constraintRight, constraintsRight}
+use Rattle.rules.specs.Store.{constraintsIn, constraintAt, labelsOf, constraintsRight}
 use Rattle.rules.specs.Pattern.{sizeOf, edgesOf, patternLabel, joined}
-use Rattle.rules.specs.Plan.{rowOf, noFigures, figureOf, covered, coveredWith, waysBy, figureBy, smaller, smallest, nodeWays, allWays, figuresWith, figuresAfter, nodeRowsFrom, nodeRows, figuresOf, endsOf, otherEnd, endWays, edgeWays, edgeCovered, allCovered}
+use Rattle.rules.specs.Plan.{rowOf, noFigures, figureOf, covered, coveredWith, waysBy, figureBy, smallest, nodeWays, allWays, figuresWith, figuresAfter, nodeRowsFrom, nodeRows, figuresOf, endsOf, otherEnd, endWays, edgeWays, edgeCovered, allCovered}
 use Rattle.rules.specs.declared.Constraint.{Constraint}
 use Rattle.rules.specs.declared.Row.{Row}
-use Rattle.laws.specs.Sets.{first-has}
-use Rattle.laws.specs.Cases.{first-holds, second-holds, and-yes}
-use Rattle.laws.specs.Keeping.{all-map, all-flat, later-has, keep-less, keep-most}
-use Rattle.laws.specs.Members.{has-keep}
-use Rattle.laws.specs.Each.{all-each}
+use Rattle.laws.specs.Cases.{first-holds, second-holds, and-yes, both-ways, not-zero}
+use Rattle.laws.specs.All.{all-map, all-flat, all-first, all-keep, all-mapped, all-true, all-weaken, all-same}
+use Rattle.laws.specs.Keep.{keep-less, keep-most, has-keep, keep-same}
+use Rattle.laws.specs.Any.{any-member, any-same, any-weaken}
+use Rattle.laws.specs.Choices.{choices-all}
+use Rattle.laws.specs.Filled.{filled, filled-all, filled-choices, filled-flat, filled-keep, filled-length, filled-map}
+use Rattle.laws.specs.Range.{length-range, range-below, range-has}
+use Rattle.laws.specs.Map.{map-same}
+use Rattle.laws.specs.Constraints.{most-right}
+use Rattle.laws.specs.Smallest.{smallest-all, smallest-none, smallest-some}
+use Rattle.laws.specs.Each.{each-same}
 
 -- ---- one step
 -- the figures after at most n steps, each of which gives the node of the smallest way the value that val says
@@ -88,129 +94,6 @@ pub figures-cover : (constraints b : List ℕ) → figuresOf constraints b ≡ c
 unfolding figuresOf nodeRows
 figures-cover constraints b = rows-cover constraints b (sizeOf b) noFigures
 
--- ---- what holds of every element
-all-first : {A : Type 0} (p : A → Bool) (x : A) (xs : List A) → all p (x ∷ xs) ≡ true → (p x ≡ true) × (all p xs ≡ true)
-unfolding all
-all-first p x xs h = (first-holds (p x) (all p xs) h, second-holds (p x) (all p xs) h)
-
-all-weaken : {A : Type 0} (p q : A → Bool) (xs : List A) → ((x : A) → p x ≡ true → q x ≡ true) → all p xs ≡ true → all q xs ≡ true
-unfolding all
-all-weaken p q [] f h = refl
-all-weaken p q (x ∷ xs) f h =
-    let k = all-first p x xs h in
-    rw (f x (k .0)) (all-weaken p q xs f (k .1))
-
-all-true : {A : Type 0} (xs : List A) → all (λ x. true) xs ≡ true
-unfolding all
-all-true [] = refl
-all-true (x ∷ xs) = all-true xs
-
-all-same : {A : Type 0} (p q : A → Bool) (xs : List A) → ((x : A) → p x ≡ q x) → all p xs ≡ all q xs
-unfolding all
-all-same p q [] f = refl
-all-same p q (x ∷ xs) f = rw (f x, all-same p q xs f)
-
-all-mapped : {A B : Type 0} (p : B → Bool) (f : A → B) (xs : List A) → all p (map f xs) ≡ all (λ x. p (f x)) xs
-unfolding all
-all-mapped p f [] = refl
-all-mapped p f (x ∷ xs) = ap (λ t. p (f x) && t) (all-mapped p f xs)
-
-all-keep : {A : Type 0} (p q : A → Bool) (xs : List A) → ((x : A) → p x ≡ true → q x ≡ true) → all q (keep p xs) ≡ true
-unfolding all keep
-all-keep p q [] f = refl
-all-keep p q (x ∷ xs) f = go (p x) refl (all-keep p q xs f)
-  where
-    go : (t : Bool) → p x ≡ t → all q (keep p xs) ≡ true → all q (cond t (x ∷ []) [] ++ keep p xs) ≡ true
-    go true e ih = rw (f x e) ih
-    go false e ih = ih
-
-any-same : (p q : ℕ → Bool) (xs : List ℕ) → ((x : ℕ) → has x xs ≡ true → p x ≡ q x) → any p xs ≡ any q xs
-unfolding any
-any-same p q [] f = refl
-any-same p q (x ∷ xs) f = rw (f x (first-has x xs), any-same p q xs (λ y k. f y (later-has x y xs k)))
-
-any-weaken : (p q : ℕ → Bool) (xs : List ℕ) → ((x : ℕ) → has x xs ≡ true → p x ≡ true → q x ≡ true) → any p xs ≡ true → any q xs ≡ true
-unfolding any
-any-weaken p q [] f h = h
-any-weaken p q (x ∷ xs) f h = go (p x) refl (any-weaken p q xs (λ y k. f y (later-has x y xs k)))
-  where
-    go : (t : Bool) → p x ≡ t → (any p xs ≡ true → any q xs ≡ true) → (q x || any q xs) ≡ true
-    go true e ih = rw (f x (first-has x xs) e)
-    go false e ih = ap (λ t. q x || t) (ih (rw e at h)) ∙ or-true (q x)
-
-any-member : (p : ℕ → Bool) (z : ℕ) (xs : List ℕ) → has z xs ≡ true → p z ≡ true → any p xs ≡ true
-unfolding any has
-any-member p z [] h e = h
-any-member p z (x ∷ xs) h e = go (eqb z x) refl (λ k. any-member p z xs k e)
-  where
-    go : (t : Bool) → eqb z x ≡ t → (has z xs ≡ true → any p xs ≡ true) → (p x || any p xs) ≡ true
-    go true q ih = let k : p x ≡ true = rw (eqb-true z x q) at e in rw k
-    go false q ih = ap (λ t. p x || t) (ih (rw q at h)) ∙ or-true (p x)
-
-all-member : (p : ℕ → Bool) (z : ℕ) (xs : List ℕ) → all p xs ≡ true → has z xs ≡ true → p z ≡ true
-unfolding has
-all-member p z [] a h = absurd (false≢true h)
-all-member p z (x ∷ xs) a h = go (eqb z x) refl (all-first p x xs a) (all-member p z xs)
-  where
-    go : (t : Bool) → eqb z x ≡ t → (p x ≡ true) × (all p xs ≡ true) → (all p xs ≡ true → has z xs ≡ true → p z ≡ true) → p z ≡ true
-    go true e k ih = rw (eqb-true z x e) (k .0)
-    go false e k ih = ih (k .1) (rw e at h)
-
--- the members of a range
-range-below : (z k n : ℕ) → has z (range k n) ≡ true → z < k + n
-unfolding range has
-range-below z k zero h = absurd (false≢true h)
-range-below z k (suc n) h = go (ℕ-discrete z k) (range-below z (k + 1) n)
-  where
-    go : Dec (z ≡ k) → (has z (range (k + 1) n) ≡ true → z < k + 1 + n) → z < k + suc n
-    go (yes e) ih = omega arith
-    go (no e) ih = let l = ih (rw (ne-eqb z k e) at h) in omega arith
-
-range-has : (z k n : ℕ) → k ≤ z → z < k + n → has z (range k n) ≡ true
-unfolding range has
-range-has z k zero l h = absurd (omega arith)
-range-has z k (suc n) l h = go (ℕ-discrete z k) (λ u v. range-has z (k + 1) n u v)
-  where
-    go : Dec (z ≡ k) → (k + 1 ≤ z → z < k + 1 + n → has z (range (k + 1) n) ≡ true) → (eqb z k || has z (range (k + 1) n)) ≡ true
-    go (yes e) ih = rw (eq-eqb z k e)
-    go (no e) ih = rw (ne-eqb z k e) (ih (omega arith) (omega arith))
-
-length-range : (k n : ℕ) → length (range k n) ≡ n
-unfolding range
-length-range k zero = refl
-length-range k (suc n) = ap suc (length-range (k + 1) n)
-
--- ---- the smallest way
--- there is a smallest way unless there is no way
-pub smallest-none : (ws : List Row) → smallest ws ≡ none → ws ≡ []
-unfolding smallest
-smallest-none [] e = refl
-smallest-none (r ∷ ws) e = let z : _≡_ {A = ℕ} 0 1 = cc in absurd (omega arith)
-
--- and no way is the smallest of none
-pub smallest-some : (ws : List Row) (r : Row) → smallest ws ≡ some r → length ws ≡ 0 → ⊥
-unfolding smallest
-smallest-some [] r e h = let z : _≡_ {A = ℕ} 0 1 = cc in omega arith
-smallest-some (w ∷ ws) r e h = omega arith
-
-some-injective : (x y : Row) → _≡_ {A = Option Row} (some x) (some y) → x ≡ y
-some-injective x y e = cc
-
--- what holds of every way holds of the smallest
-pub smallest-all : (p : Row → Bool) (ws : List Row) (r : Row) → all p ws ≡ true → smallest ws ≡ some r → p r ≡ true
-unfolding smallest smaller
-smallest-all p [] r h e = let z : _≡_ {A = ℕ} 0 1 = cc in absurd (omega arith)
-smallest-all p (w ∷ ws) r h e = first-or-rest (smallest ws) refl (some-injective (smaller w (smallest ws)) r e) (all-first p w ws h) (smallest-all p ws)
-  where
-    first-or-rest : (o : Option Row) → smallest ws ≡ o → smaller w (smallest ws) ≡ r → (p w ≡ true) × (all p ws ≡ true)
-        → ((q : Row) → all p ws ≡ true → smallest ws ≡ some q → p q ≡ true) → p r ≡ true
-    first-or-rest none eo er h ih = ap p (sym er ∙ ap (smaller w) eo) ∙ h .0
-    first-or-rest (some q) eo er h ih = ap p (sym er ∙ ap (smaller w) eo) ∙ either (ltb (q .figure) (w .figure)) (h .0) (ih q (h .1) eo)
-      where
-        either : (t : Bool) → p w ≡ true → p q ≡ true → p (cond t q w) ≡ true
-        either true a c = c
-        either false a c = a
-
 -- ---- a way is for an uncovered node, and its figure is not 0
 -- the pattern nodes that the figures leave uncovered
 unfoldable pub uncovered : List ℕ → List ℕ → List ℕ
@@ -228,31 +111,6 @@ unfolding allWays uncovered
 ways-uncovered constraints b figures =
     all-flat _ (nodeWays constraints b figures) (keep (λ u. not (covered figures u)) (range 0 (sizeOf b)))
     (λ u h. all-weaken _ _ (nodeWays constraints b figures u) (λ r e. rw (eqb-true (r .number) u e) h) (node-way constraints b figures u))
-
-most-says : (c : Constraint) → constraintAlone c ≡ true → 1 ≤ c .most
-unfolding constraintAlone
-most-says c h =
-    let a = labelAfter (c .first) (c .second) && labelAfter (c .second) (c .third) && not (eqb (c .label) 0) in
-    let k : (a && leb 1 (c .most)) ≡ true = first-holds (a && leb 1 (c .most)) (leb (c .most) 65535) h in
-    leb-true 1 (c .most) (second-holds a (leb 1 (c .most)) k)
-
--- N is at least 1
-pub most-right : (constraints : List ℕ) → constraintsRight constraints ≡ true → (c : ℕ) → c < constraintsIn constraints → 1 ≤ constraintAt constraints c .most
-unfolding constraintsRight constraintRight
-most-right constraints h c l =
-    most-says (constraintAt constraints c)
-    (first-holds (constraintAlone (constraintAt constraints c)) _ (all-each (constraintRight constraints) 0 (constraintsIn constraints) h c (omega arith) (omega arith)))
-
-choices-all : (p : ℕ → Bool) (lists : List (List ℕ)) → all (all p) lists ≡ true → all (all p) (choices lists) ≡ true
-unfolding choices all
-choices-all p [] h = refl
-choices-all p (xs ∷ rest) h = go (first-holds (all p xs) (all (all p) rest) h) (choices-all p rest (second-holds (all p xs) (all (all p) rest) h))
-  where
-    go : all p xs ≡ true → all (all p) (choices rest) ≡ true → all (all p) (flatMap (λ x. map (λ c. x ∷ c) (choices rest)) xs) ≡ true
-    go a ih =
-        all-flat (all p) (λ x. map (λ c. x ∷ c) (choices rest)) xs
-        (λ x k. all-mapped (all p) (λ c. x ∷ c) (choices rest)
-        ∙ all-weaken (all p) (λ c. p x && all p c) (choices rest) (λ c e. rw (all-member p x xs a k) e) ih)
 
 -- the nodes chosen are covered
 ways-chosen : (b figures : List ℕ) (u : ℕ) (c : Constraint) → all (all (covered figures)) (waysBy b figures u c) ≡ true
@@ -273,14 +131,6 @@ ways-chosen b figures u c = go (eqb (patternLabel b u) (c .label))
     go : (t : Bool) → all (all (covered figures)) (cond t (choices (map (coveredWith b figures u) (labelsOf c))) []) ≡ true
     go true = choices-all (covered figures) (map (coveredWith b figures u) (labelsOf c)) lists
     go false = refl
-
--- so that the product of their figures is not 0
-not-zero : (n : ℕ) → (n ≡ 0 → ⊥) → 0 < n
-not-zero n h = go (decLe 1 n)
-  where
-    go : Dec (1 ≤ n) → 0 < n
-    go (yes k) = k
-    go (no k) = absurd (h (omega arith))
 
 covered-not : (figures : List ℕ) (u : ℕ) → covered figures u ≡ true → getD figures u 0 ≡ 0 → ⊥
 unfolding covered
@@ -409,65 +259,6 @@ module _ (constraints b : List ℕ) (right : constraintsRight constraints ≡ tr
       let e = length-range 0 (sizeOf b) in
       cover-end (sizeOf b) noFigures refl (omega arith)
 
--- the node rows go on until no uncovered node has a way
-pub rows-enough : (constraints b : List ℕ) → constraintsRight constraints ≡ true → sizeOf b ≤ 8 → allWays constraints b (figuresOf constraints b) ≡ []
-rows-enough constraints b right small =
-    ap (allWays constraints b) (figures-cover constraints b) ∙ cover-closed constraints b right small (λ r. r .figure) (λ r h. h)
-
--- ---- lists that have an element
--- the list has an element
-unfoldable pub filled : {A : Type 0} → List A → Bool
-filled [] = false
-filled (x ∷ xs) = true
-
-filled-append : {A : Type 0} (xs ys : List A) → filled (xs ++ ys) ≡ (filled xs || filled ys)
-unfolding filled
-filled-append [] ys = refl
-filled-append (x ∷ xs) ys = refl
-
-filled-map : {A B : Type 0} (f : A → B) (xs : List A) → filled (map f xs) ≡ filled xs
-unfolding filled
-filled-map f [] = refl
-filled-map f (x ∷ xs) = refl
-
-filled-flat : {B : Type 0} (f : ℕ → List B) (xs : List ℕ) → filled (flatMap f xs) ≡ any (λ x. filled (f x)) xs
-unfolding filled flatMap any
-filled-flat f [] = refl
-filled-flat f (x ∷ xs) = filled-append (f x) (flatMap f xs) ∙ ap (λ t. filled (f x) || t) (filled-flat f xs)
-
-filled-keep : {A : Type 0} (p : A → Bool) (xs : List A) → filled (keep p xs) ≡ any p xs
-unfolding filled keep any
-filled-keep p [] = refl
-filled-keep p (x ∷ xs) = go (p x) (filled-keep p xs)
-  where
-    go : (t : Bool) → filled (keep p xs) ≡ any p xs → filled (cond t (x ∷ []) [] ++ keep p xs) ≡ (t || any p xs)
-    go true ih = refl
-    go false ih = ih
-
-any-always : (t : Bool) (xs : List ℕ) → any (λ x. t) xs ≡ (filled xs && t)
-unfolding any filled
-any-always t [] = refl
-any-always t (x ∷ xs) = ap (λ s. t || s) (any-always t xs) ∙ once t (filled xs)
-  where
-    once : (t s : Bool) → (t || (s && t)) ≡ t
-    once true s = refl
-    once false true = refl
-    once false false = refl
-
-filled-choices : (lists : List (List ℕ)) → filled (choices lists) ≡ all filled lists
-unfolding choices all
-filled-choices [] = unfold filled in refl
-filled-choices (xs ∷ rest) =
-    filled-flat (λ x. map (λ c. x ∷ c) (choices rest)) xs
-    ∙ any-same _ (λ x. filled (choices rest)) xs (λ x h. filled-map (λ c. x ∷ c) (choices rest))
-    ∙ any-always (filled (choices rest)) xs
-    ∙ ap (λ t. filled xs && t) (filled-choices rest)
-
-filled-length : {A : Type 0} (xs : List A) → not (eqb (length xs) 0) ≡ filled xs
-unfolding filled
-filled-length [] = refl
-filled-length (x ∷ xs) = ap not (ne-eqb (suc (length xs)) 0 (λ e. omega arith))
-
 -- ---- when there is a way
 -- u may be fetched by a constraint: u is labelled l, and each label of S has a covered neighbour
 unfoldable pub fetchable : List ℕ → List ℕ → ℕ → Constraint → Bool
@@ -522,11 +313,6 @@ module _ (b F G : List ℕ) (more : (w : ℕ) → w < sizeOf b → covered F w �
   pub reached-more : (constraints : List ℕ) (u : ℕ) → reached constraints b F u ≡ true → reached constraints b G u ≡ true
   unfolding reached
   reached-more constraints u h = any-weaken _ _ (range 0 (constraintsIn constraints)) (λ c i. fetchable-more u (constraintAt constraints c)) h
-
-filled-all : {A : Type 0} (p : A → Bool) (xs : List A) → (filled xs ≡ true → all p xs ≡ true) → all p xs ≡ true
-unfolding filled
-filled-all p [] f = unfold all in refl
-filled-all p (x ∷ xs) f = f refl
 
 -- every way is for a node that is reached
 pub ways-reached : (constraints b figures : List ℕ) → all (λ r. reached constraints b figures (r .number)) (allWays constraints b figures) ≡ true
@@ -601,14 +387,9 @@ module _ (constraints b : List ℕ) (right : constraintsRight constraints ≡ tr
   pub cover-same : (v1 v2 : Row → ℕ) → Lasting v1 → Lasting v2 → (u : ℕ) → u < sizeOf b
       → covered (coverFrom v1 constraints b (sizeOf b) noFigures) u ≡ covered (coverFrom v2 constraints b (sizeOf b) noFigures) u
   cover-same v1 v2 k1 k2 u l =
-      both (covered (coverFrom v1 constraints b (sizeOf b) noFigures) u) (covered (coverFrom v2 constraints b (sizeOf b) noFigures) u)
+      both-ways (covered (coverFrom v1 constraints b (sizeOf b) noFigures) u) (covered (coverFrom v2 constraints b (sizeOf b) noFigures) u)
       (cover-least v1 constraints b (coverFrom v2 constraints b (sizeOf b) noFigures) (cover-closed constraints b right small v2 k2) (sizeOf b) u l)
       (cover-least v2 constraints b (coverFrom v1 constraints b (sizeOf b) noFigures) (cover-closed constraints b right small v1 k1) (sizeOf b) u l)
-    where
-      both : (s t : Bool) → (s ≡ true → t ≡ true) → (t ≡ true → s ≡ true) → s ≡ t
-      both true t f g = sym (f refl)
-      both false true f g = g refl
-      both false false f g = refl
 
   -- the node rows cover the same nodes as steps that write 1 each
   pub figures-same : (u : ℕ) → u < sizeOf b → covered (figuresOf constraints b) u ≡ covered (coverFrom (λ r. 1) constraints b (sizeOf b) noFigures) u
@@ -617,15 +398,6 @@ module _ (constraints b : List ℕ) (right : constraintsRight constraints ≡ tr
       ∙ cover-same (λ r. r .figure) (λ r. 1) (λ r h. h) (λ r h e. omega arith) u l
 
 -- ---- edges
-keep-same : (p q : ℕ → Bool) (xs : List ℕ) → ((x : ℕ) → has x xs ≡ true → p x ≡ q x) → keep p xs ≡ keep q xs
-unfolding keep
-keep-same p q [] f = refl
-keep-same p q (x ∷ xs) f = rw (f x (first-has x xs), keep-same p q xs (λ y k. f y (later-has x y xs k)))
-
-map-same : {B : Type 0} (f g : ℕ → B) (xs : List ℕ) → ((x : ℕ) → f x ≡ g x) → map f xs ≡ map g xs
-map-same f g [] h = refl
-map-same f g (x ∷ xs) h = rw (h x, map-same f g xs h)
-
 edge-filled : (constraints b figures : List ℕ) (j : ℕ) → edgeCovered constraints b figures j
     ≡ any (λ c. any (λ f. filled (keep (has (otherEnd b j f)) (waysBy b figures f (constraintAt constraints c)))) (endsOf b j)) (range 0 (constraintsIn constraints))
 unfolding edgeCovered edgeWays endWays
@@ -666,11 +438,6 @@ module _ (constraints b figures : List ℕ) (j : ℕ) where
   edge-none e = ap (λ ws. not (eqb (length ws) 0)) (smallest-none (edgeWays constraints b figures j) e)
 
 -- ---- everything covered
-from-same : (p q : ℕ → Bool) (k n : ℕ) → ((i : ℕ) → i < k + n → p i ≡ q i) → allFrom p k n ≡ allFrom q k n
-unfolding allFrom
-from-same p q k zero f = refl
-from-same p q k (suc n) f = rw (f k (omega arith), from-same p q (k + 1) n (λ i h. f i (omega arith)))
-
 -- every node and edge is covered exactly if steps that write 1 each cover them
 pub all-covered : (constraints b : List ℕ) → constraintsRight constraints ≡ true → sizeOf b ≤ 8
     → allCovered constraints b
@@ -679,23 +446,12 @@ pub all-covered : (constraints b : List ℕ) → constraintsRight constraints �
 unfolding allCovered
 all-covered constraints b right small =
     ap (λ t. t && allFrom (edgeCovered constraints b (figuresOf constraints b)) 0 (edgesOf b))
-    (from-same _ _ 0 (sizeOf b) (λ u l. figures-same constraints b right small u (omega arith)))
+    (each-same _ _ 0 (sizeOf b) (λ u k l. figures-same constraints b right small u (omega arith)))
     ∙ ap (λ t. allFrom (covered (coverFrom (λ r. 1) constraints b (sizeOf b) noFigures)) 0 (sizeOf b) && t)
-    (from-same _ _ 0 (edgesOf b)
-    (λ j l. edge-same b (figuresOf constraints b) (coverFrom (λ r. 1) constraints b (sizeOf b) noFigures) (figures-same constraints b right small) constraints j))
+    (each-same _ _ 0 (edgesOf b)
+    (λ j k l. edge-same b (figuresOf constraints b) (coverFrom (λ r. 1) constraints b (sizeOf b) noFigures) (figures-same constraints b right small) constraints j))
 
 -- ---- the figures that the steps leave
--- the figures stay as many
-pub cover-length : (val : Row → ℕ) (constraints b : List ℕ) (n : ℕ) (figures : List ℕ) → length (coverFrom val constraints b n figures) ≡ length figures
-unfolding coverFrom
-cover-length val constraints b zero figures = refl
-cover-length val constraints b (suc n) figures = go (smallest (allWays constraints b figures)) (cover-length val constraints b n)
-  where
-    go : (o : Option Row) → ((next : List ℕ) → length (coverFrom val constraints b n next) ≡ length next)
-        → length {A = ℕ} (elim o [ none ↦ figures | some r ↦ coverFrom val constraints b n (set figures (r .number) (val r)) ]) ≡ length figures
-    go none ih = refl
-    go (some r) ih = ih (set figures (r .number) (val r)) ∙ length-set figures (r .number) (val r)
-
 set-most : (figures : List ℕ) (n : ℕ) → ((u : ℕ) → getD figures u 0 ≤ 1) → (u : ℕ) → getD (set figures n 1) u 0 ≤ 1
 set-most figures n most u = go (ℕ-discrete u n) (decLe (length figures) n)
   where
@@ -715,10 +471,6 @@ cover-most constraints b (suc n) figures most = go (smallest (allWays constraint
     go none ih = most
     go (some r) ih = ih (set figures (r .number) 1) (set-most figures (r .number) most)
 
--- from no figures on they leave 8 figures
-pub ones-length : (constraints b : List ℕ) (n : ℕ) → length (coverFrom (λ r. 1) constraints b n noFigures) ≡ 8
-ones-length constraints b n = cover-length (λ r. 1) constraints b n noFigures
-
--- and none of these is above 1
+-- so too from no figures on
 pub ones-most : (constraints b : List ℕ) (n u : ℕ) → getD (coverFrom (λ r. 1) constraints b n noFigures) u 0 ≤ 1
 ones-most constraints b n = cover-most constraints b n noFigures (λ u. omega (arith, none-figure u))

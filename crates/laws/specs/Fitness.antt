@@ -1,20 +1,20 @@
 -- The rules of a fit list, taken entry by entry: the lowest rule that a list breaks is the lowest that one of its entries breaks. Assumes nothing.
 use mathlib.Core.Path.{_≡_, refl, sym, ap, _∙_}
-use mathlib.Core.Bool.{Bool, true, false, cond, not, _&&_, _||_}
-use mathlib.Core.List.{List, [], _∷_, _++_}
+use mathlib.Core.Bool.{Bool, true, false, cond, not, _&&_, _||_, and-true, and-assoc}
+use mathlib.Core.List.{List, [], _∷_}
 use Prim.Native.Nat.{ℕ, zero, suc, _+_, _-_, _*_, _/_, _%_, _^_, _≤_, _<_}
 use native.Mathlib.Nat.{div-one}
 use native.Mathlib.Omega.{arith}
-use lib.Dec.{ltb, leb, eqb}
+use lib.Dec.{ltb, eqb}
 use lib.ListN.{length, length-append, length-take, length-drop}
-use borrow.Author.Tests.{lt-ltb, le-ltb, ltb-true, ltb-false, leb-true, not-true, not-false}
+use borrow.Author.Tests.{lt-ltb, le-ltb, ltb-true, ltb-false, leb-true, not-false}
 use Rattle.rules.specs.Words.{u32At}
-use Rattle.rules.specs.Lists.{allFrom, foldFrom, keep}
+use Rattle.rules.specs.Lists.{allFrom, keep}
+use Rattle.laws.specs.Loops.{foldFrom}
 use Rattle.rules.specs.Store.{nodesIn, entriesIn, labelsOf}
 use Rattle.rules.specs.Listing.{inside, listPart, bitsFor, idRight, labelRight, restRight, beyondRight, bitsRight, ruleBroken}
 use Rattle.rules.specs.declared.Constraint.{Constraint}
-use Rattle.laws.specs.Cases.{first-holds, second-holds}
-use Rattle.laws.specs.Each.{all-each}
+use Rattle.laws.specs.Cases.{first-holds}
 
 -- the first of rules 3 to 7 that fails, or `fit`
 abbrev pub firstFailed : Bool → Bool → Bool → Bool → Bool → ℕ → ℕ
@@ -45,14 +45,6 @@ listRule nodes c size list count fit =
     (allFrom (beyondRight size list) 0 count) (allFrom (bitsRight size list) 0 count) fit
 
 -- ---- the lower of two rows of tests
-and-true : (a : Bool) → (a && true) ≡ a
-and-true true = refl
-and-true false = refl
-
-and-assoc : (a b c : Bool) → ((a && b) && c) ≡ (a && (b && c))
-and-assoc true b c = refl
-and-assoc false b c = refl
-
 cond-above : (t : Bool) (k n x : ℕ) → k ≤ n → k ≤ x → k ≤ cond t n x
 cond-above true k n x h e = h
 cond-above false k n x h e = e
@@ -224,11 +216,6 @@ rest-passed true n x h = omega (arith, h)
 rest-passed false n x h = h
 
 module _ (nodes : List ℕ) (c : Constraint) (entries : List ℕ) (start count : ℕ) (fit : ruleBroken nodes c entries start count ≡ 0) where
-  -- it is inside the entries
-  pub fit-inside : start * 8 + count * 8 ≤ length entries
-  unfolding ruleBroken
-  fit-inside = inside-room entries start count (inside entries start count) refl (test-passed (not (inside entries start count)) 0 _ fit)
-
   after-inside : cond (ltb (c .most) count) 2 (listRule nodes c (length (labelsOf c)) (listPart entries start count) count 0) ≡ 0
   unfolding ruleBroken listRule
   after-inside = rest-passed (not (inside entries start count)) 0 _ fit
@@ -236,15 +223,3 @@ module _ (nodes : List ℕ) (c : Constraint) (entries : List ℕ) (start count :
   -- it has at most N entries
   pub fit-most : count ≤ c .most
   fit-most = ltb-false _ _ (test-passed (ltb (c .most) count) 1 (listRule nodes c (length (labelsOf c)) (listPart entries start count) count 0) after-inside)
-
-  ids-right : allFrom (idRight nodes (listPart entries start count)) 0 count ≡ true
-  unfolding listRule
-  ids-right =
-      let own : listRule nodes c (length (labelsOf c)) (listPart entries start count) count 0 ≡ 0 = rest-passed (ltb (c .most) count) 1 _ after-inside in
-      not-false _ (test-passed (not (allFrom (idRight nodes (listPart entries start count)) 0 count)) 2 _ own)
-
-  -- the id of each entry is a node's
-  pub fit-node : (i : ℕ) → i < count → u32At (listPart entries start count) (i * 8) < nodesIn nodes
-  fit-node i h =
-      let list = listPart entries start count in
-      id-below nodes list i (idRight nodes list i) refl (ap not (all-each (idRight nodes list) 0 count ids-right i (omega arith) (omega arith)))

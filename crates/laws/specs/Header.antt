@@ -8,26 +8,25 @@ use lib.Dec.{eqb, leb}
 use lib.ListN.{length}
 use borrow.Author.Tests.{eqb-true, leb-true, not-false}
 use Rattle.rules.specs.Words.{u32At}
-use Rattle.rules.specs.Store.{nodeCount, edgeCount, constraintCount, groupCount, entryCount, edgesAt, constraintsAt, groupsAt, entriesAt, endAt}
-use Rattle.rules.specs.Store.{countsRight, offsetsRight, wordsRight, headerRight, draftRight}
+use Rattle.rules.specs.Store.{mostNodes, mostEdges, mostConstraints, mostGroups, mostEntries, nodeCount, edgeCount, constraintCount, groupCount, entryCount, edgesAt, constraintsAt, groupsAt, entriesAt, endAt, countsRight, offsetsRight, wordsRight, headerRight, draftRight}
 use Rattle.laws.specs.Cases.{first-holds, second-holds}
 
 -- the counts are within their limits
 pub record Limits (s : List ℕ) : Type 0 where
-  pub nodes : nodeCount s ≤ 65535
-  pub edges : edgeCount s ≤ 262144
-  pub constraints : constraintCount s ≤ 32
-  pub groups : groupCount s ≤ 262144
-  pub entries : entryCount s ≤ 1048576
+  pub nodes : nodeCount s ≤ mostNodes
+  pub edges : edgeCount s ≤ mostEdges
+  pub constraints : constraintCount s ≤ mostConstraints
+  pub groups : groupCount s ≤ mostGroups
+  pub entries : entryCount s ≤ mostEntries
 
 counts-limits : (s : List ℕ) → countsRight s ≡ true → Limits s
 unfolding countsRight
 counts-limits s right =
-    let n = leb (nodeCount s) 65535 in
-    let m = leb (edgeCount s) 262144 in
-    let k = leb (constraintCount s) 32 in
-    let g = leb (groupCount s) 262144 in
-    let e = leb (entryCount s) 1048576 in
+    let n = leb (nodeCount s) mostNodes in
+    let m = leb (edgeCount s) mostEdges in
+    let k = leb (constraintCount s) mostConstraints in
+    let g = leb (groupCount s) mostGroups in
+    let e = leb (entryCount s) mostEntries in
     let four : (n && m && k && g) ≡ true = first-holds (n && m && k && g) e right in
     let three : (n && m && k) ≡ true = first-holds (n && m && k) g four in
     let two : (n && m) ≡ true = first-holds (n && m) k three in
@@ -99,14 +98,8 @@ module _ (s : List ℕ) (r : Bool) (q : r ≡ headerRight s) (passed : not r ≡
   pub passed-nodes : edgesAt s ≤ length s
   passed-nodes = omega (arith, header-ends s passed-header)
 
-  pub passed-edges : constraintsAt s ≤ length s
-  passed-edges = omega (arith, header-ends s passed-header)
-
   pub passed-constraints : groupsAt s ≤ length s
   passed-constraints = omega (arith, header-ends s passed-header)
-
-  pub passed-groups : entriesAt s ≤ length s
-  passed-groups = omega (arith, header-ends s passed-header)
 
   pub passed-entries : endAt s ≤ length s
   passed-entries = omega (arith, header-ends s passed-header)

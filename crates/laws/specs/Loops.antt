@@ -1,10 +1,15 @@
 -- The invariants of three kinds of loop over 0, 1, .., n - 1, with a law for each need. Assumes nothing.
 use mathlib.Core.Path.{_≡_, sym, _∙_}
 use mathlib.Core.Bool.{Bool, true, false, _&&_, _||_}
-use Prim.Native.Nat.{ℕ, suc, _+_, _-_, _<_, _≤_}
+use Prim.Native.Nat.{ℕ, zero, suc, _+_, _-_, _<_, _≤_}
 use native.Mathlib.Nat.{sub-zero}
 use native.Mathlib.Omega.{arith}
-use Rattle.rules.specs.Lists.{allFrom, anyFrom, foldFrom}
+use Rattle.rules.specs.Lists.{allFrom, anyFrom}
+
+-- a, taken through k, k + 1, ..: through n numbers
+unfoldable pub foldFrom : {A : Type 0} → (ℕ → A → A) → ℕ → ℕ → A → A
+foldFrom f k zero a = a
+foldFrom f k (suc n) a = foldFrom f (k + 1) n (f k a)
 
 -- a loop that tests p and stops at the first failure: at k, what is left decides the whole. A record, so that the laws find p, n, k and whole by themselves
 pub record AllLeft (p : ℕ → Bool) (n k : ℕ) (whole : Bool) : Type 0 where

@@ -10,8 +10,7 @@ use Rattle.rules.specs.Words.{part}
 use Rattle.rules.specs.Lists.{has}
 use Rattle.laws.specs.Parts.{length-part, get-part, part-part}
 use Rattle.laws.specs.Slices.{drop-next}
-use Rattle.laws.specs.Sets.{first-has}
-use Rattle.laws.specs.Keeping.{later-has}
+use Rattle.laws.specs.Has.{has-get}
 
 -- the next element of a part, in the words of a loop
 pub part-next : (l : List ℕ) (i e : ℕ) → i < e → e ≤ length l → part l i e ≡ getD l i 0 ∷ part l (i + 1) e
@@ -35,12 +34,6 @@ pub part-slice : (l : List ℕ) (a e lo hi : ℕ) → lo ≤ hi → a + hi ≤ e
 part-slice l a e lo hi h k =
     let m : lo + (hi - lo) ≡ hi = omega arith in
     sym (part-part l a e lo hi k h) ∙ take-drop lo (hi - lo) (part l a e) ∙ ap (λ n. slice lo n (part l a e)) m
-
--- an element is a member
-pub has-get : (l : List ℕ) (i : ℕ) → i < length l → has (getD l i 0) l ≡ true
-has-get [] i h = absurd (omega arith)
-has-get (y ∷ l) zero h = first-has y l
-has-get (y ∷ l) (suc i) h = later-has y (getD l i 0) l (has-get l i (omega arith))
 
 pub part-has : (l : List ℕ) (a e k : ℕ) → a ≤ k → k < e → e ≤ length l → has (getD l k 0) (part l a e) ≡ true
 part-has l a e k h j m =

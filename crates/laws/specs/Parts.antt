@@ -1,17 +1,41 @@
 -- Reading through the parts of a store is reading through the whole, and a right header says how long each part is. Assumes nothing.
-use mathlib.Core.Path.{_≡_, refl, sym, ap, _∙_}
-use mathlib.Core.Bool.{Bool, true}
-use mathlib.Core.List.{List, [], _∷_}
-use Prim.Native.Nat.{ℕ, zero, suc, _+_, _-_, _*_, _/_, _≤_, _<_}
+use mathlib.Core.Path.{_≡_, sym, ap, _∙_}
+use mathlib.Core.Bool.{true}
+use mathlib.Core.List.{List, [], _∷_, _++_}
+use Prim.Native.Nat.{ℕ, zero, suc, _+_, _-_, _*_, _≤_, _<_}
 use native.Mathlib.Nat.{sub-zero, zero-sub, add-zero, zero-add, add-assoc}
 use native.Mathlib.Omega.{arith}
 use lib.ListN.{length, getD, take, drop, length-take, length-drop}
-use lib.Seq.{getD-take, getD-drop, take-take, drop-drop, take-nil, drop-nil}
-use Rattle.rules.specs.Words.{u16At, u32At, part}
-use Rattle.rules.specs.Store.{nodeCount, edgeCount, constraintCount, groupCount, entryCount, edgesAt, constraintsAt, groupsAt, entriesAt, endAt}
-use Rattle.rules.specs.Store.{nodePart, edgePart, constraintPart, groupPart, entryPart, beforeEdges, afterEdges}
-use Rattle.rules.specs.Store.{nodesBefore, constraintsAfter, groupsAfter, entriesAfter, nodesIn, edgesIn, constraintsIn, groupsIn, entriesIn, headerRight}
-use Rattle.laws.specs.Header.{header-long, header-ends}
+use lib.Seq.{getD-take, getD-drop, take-take, drop-drop, take-nil, drop-nil, take-add, drop-at, length-take-le}
+use Rattle.rules.specs.Words.{u32At, part}
+use Rattle.rules.specs.Store.{fromAt, toAt, nodeCount, edgeCount, constraintCount, groupCount, entryCount, edgesAt, constraintsAt, groupsAt, entriesAt, endAt, nodePart, edgePart, constraintPart, groupPart, entryPart, nodesIn, edgesIn, constraintsIn, groupsIn, entriesIn, headerRight}
+use Rattle.laws.specs.Header.{header-ends}
+use Rattle.rules.specs.declared.Edge.{Edge}
+
+-- an edge's ends
+abbrev pub edgeRecord : List ℕ → ℕ → Edge
+edgeRecord edges i = record { from = fromAt edges i; to = toAt edges i }
+
+-- the parts before and after the edge section; the first has the header and the nodes
+abbrev pub beforeEdges : List ℕ → List ℕ
+beforeEdges s = part s 0 (edgesAt s)
+
+abbrev pub afterEdges : List ℕ → List ℕ
+afterEdges s = part s (constraintsAt s) (endAt s)
+
+-- the sections, found in these two parts
+abbrev pub nodesBefore : List ℕ → List ℕ
+nodesBefore before = part before 48 (edgesAt before)
+
+abbrev pub constraintsAfter : List ℕ → List ℕ → List ℕ
+constraintsAfter before after = part after 0 (constraintCount before * 12)
+
+abbrev pub groupsAfter : List ℕ → List ℕ → List ℕ
+groupsAfter before after = part after (constraintCount before * 12) (constraintCount before * 12 + groupCount before * 24)
+
+abbrev pub entriesAfter : List ℕ → List ℕ → List ℕ
+entriesAfter before after =
+    part after (constraintCount before * 12 + groupCount before * 24) (constraintCount before * 12 + groupCount before * 24 + entryCount before * 8)
 
 -- ---- any part of any bytes
 pub length-part : (s : List ℕ) (a e : ℕ) → e ≤ length s → length (part s a e) ≡ e - a
@@ -22,9 +46,21 @@ get-part s a e i h =
     let inside : i < e - a = omega arith in
     getD-take (e - a) (drop a s) i 0 inside ∙ getD-drop a s i 0
 
-pub u16-part : (s : List ℕ) (a e i : ℕ) → a + i + 2 ≤ e → u16At (part s a e) i ≡ u16At s (a + i)
-unfolding u16At
-u16-part s a e i h = rw (get-part s a e i (omega arith), get-part s a e (i + 1) (omega arith)) (simp add-assoc)
+-- a part that ends within the front of w is a part of that front
+pub part-front : (w : List ℕ) (base a e : ℕ) → a ≤ e → e ≤ base → base ≤ length w → part (take base w) a e ≡ part w a e
+part-front w base a e h k l =
+    let m : a + (base - a) ≡ base = omega arith in
+    let f : take base w ≡ take a w ++ take (base - a) (drop a w) = rw m at (take-add a (base - a) w) in
+    let g : drop a (take base w) ≡ take (base - a) (drop a w) = ap (drop a) f ∙ drop-at (take a w) (take (base - a) (drop a w)) a (length-take-le a w (omega arith)) in
+    ap (take (e - a)) g ∙ take-take (e - a) (base - a) (drop a w) (omega arith)
+
+-- two parts, the second just behind the first, are one
+pub part-add : (s : List ℕ) (a m k : ℕ) → part s a (a + (m + k)) ≡ part s a (a + m) ++ part s (a + m) (a + m + k)
+part-add s a m k =
+    let x : a + (m + k) - a ≡ m + k = omega arith in
+    let y : a + m - a ≡ m = omega arith in
+    let z : a + m + k - (a + m) ≡ k = omega arith in
+    rw (x, y, z, ← drop-drop) (take-add m k (drop a s))
 
 pub u32-part : (s : List ℕ) (a e i : ℕ) → a + i + 4 ≤ e → u32At (part s a e) i ≡ u32At s (a + i)
 unfolding u32At

@@ -9,8 +9,9 @@ use lib.ListN.{length, getD}
 use lib.Seq.{slice}
 use lib.Dec.{eqb, leb, ltb}
 use borrow.Author.Tests.{le-leb, lt-leb, lt-ltb, le-ltb, eq-eqb, ne-eqb}
-use Rattle.rules.specs.Lists.{halving, has, keep, From, Strict}
-use Rattle.laws.specs.Members.{keep-yes, keep-no}
+use Rattle.rules.specs.Lists.{halving, has, keep}
+use Rattle.laws.specs.Strict.{From, Strict}
+use Rattle.laws.specs.Keep.{keep-yes, keep-no}
 use Rattle.laws.specs.Halving.{halving-up, halving-down, halving-end}
 
 -- ---- a search ends where its test turns from true to false, if it turns once

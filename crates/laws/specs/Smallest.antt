@@ -1,17 +1,20 @@
 -- Laws of `smallest`: the smallest of two runs of ways, and the invariant of a loop that keeps the best way so far. Assumes nothing.
 use mathlib.Core.Path.{_≡_, refl, sym, ap, _∙_}
-use mathlib.Core.Bool.{Bool, true, false, cond, _&&_}
-use mathlib.Core.List.{List, [], _∷_, _++_, map, flatMap}
-use mathlib.Core.Option.{Option, some, none}
+use mathlib.Core.Bool.{Bool, true, false, cond}
+use mathlib.Core.List.{List, [], _∷_, _++_, flatMap}
+use mathlib.Core.Option.{Option, some, none, Option·some-injective}
 use Prim.Native.Nat.{ℕ, suc, _+_, _-_, _≤_, _<_}
 use native.Mathlib.Decide.{decLe}
 use native.Mathlib.Nat.{sub-zero}
 use native.Mathlib.Omega.{arith}
 use lib.Dec.{ltb}
 use borrow.Author.Tests.{lt-ltb, le-ltb}
-use Rattle.rules.specs.Lists.{range, keep, all}
+use lib.ListN.{length}
+use Rattle.rules.specs.Lists.{range, all}
 use Rattle.rules.specs.Plan.{smaller, smallest}
 use Rattle.rules.specs.declared.Row.{Row}
+use Rattle.laws.specs.Every.{Every}
+use Rattle.laws.specs.All.{all-first}
 
 -- the better of two: the second only if its figure is smaller
 abbrev pub better : Option Row → Option Row → Option Row
@@ -77,23 +80,50 @@ module _ {f : ℕ → List Row} {n k : ℕ} {best whole : Option Row} (inv : Bes
       let m : n - k ≡ 0 = omega arith in
       sym (inv .rest ∙ rw m (better-none best))
 
--- ---- kept elements, one by one
-pub flat-keep : {B : Type 0} (f : ℕ → List B) (p : ℕ → Bool) (xs : List ℕ) → flatMap f (keep p xs) ≡ flatMap (λ x. cond (p x) (f x) []) xs
-unfolding flatMap keep
-flat-keep f p [] = refl
-flat-keep f p (x ∷ xs) = go (p x) (flat-keep f p xs)
-  where
-    go : (t : Bool) → flatMap f (keep p xs) ≡ flatMap (λ x. cond (p x) (f x) []) xs
-        → flatMap f (cond t (x ∷ []) [] ++ keep p xs) ≡ cond t (f x) [] ++ flatMap (λ x. cond (p x) (f x) []) xs
-    go true e = ap (λ l. f x ++ l) e
-    go false e = e
+-- ---- the smallest way is one of the ways
+-- there is a smallest way unless there is no way
+pub smallest-none : (ws : List Row) → smallest ws ≡ none → ws ≡ []
+unfolding smallest
+smallest-none [] e = refl
+smallest-none (r ∷ ws) e = let z : _≡_ {A = ℕ} 0 1 = cc in absurd (omega arith)
 
-pub map-keep : {B : Type 0} (f : ℕ → B) (p : ℕ → Bool) (xs : List ℕ) → map f (keep p xs) ≡ flatMap (λ x. cond (p x) (f x ∷ []) []) xs
-unfolding flatMap keep
-map-keep f p [] = refl
-map-keep f p (x ∷ xs) = go (p x) (map-keep f p xs)
+-- and no way is the smallest of none
+pub smallest-some : (ws : List Row) (r : Row) → smallest ws ≡ some r → length ws ≡ 0 → ⊥
+unfolding smallest
+smallest-some [] r e h = let z : _≡_ {A = ℕ} 0 1 = cc in omega arith
+smallest-some (w ∷ ws) r e h = omega arith
+
+-- what holds of every way holds of the smallest
+pub smallest-all : (p : Row → Bool) (ws : List Row) (r : Row) → all p ws ≡ true → smallest ws ≡ some r → p r ≡ true
+unfolding smallest smaller
+smallest-all p [] r h e = let z : _≡_ {A = ℕ} 0 1 = cc in absurd (omega arith)
+smallest-all p (w ∷ ws) r h e = first-or-rest (smallest ws) refl (Option·some-injective (smaller w (smallest ws)) r e) (all-first p w ws h) (smallest-all p ws)
   where
-    go : (t : Bool) → map f (keep p xs) ≡ flatMap (λ x. cond (p x) (f x ∷ []) []) xs
-        → map f (cond t (x ∷ []) [] ++ keep p xs) ≡ cond t (f x ∷ []) [] ++ flatMap (λ x. cond (p x) (f x ∷ []) []) xs
-    go true e = ap (λ l. f x ∷ l) e
-    go false e = e
+    first-or-rest : (o : Option Row) → smallest ws ≡ o → smaller w (smallest ws) ≡ r → (p w ≡ true) × (all p ws ≡ true)
+        → ((q : Row) → all p ws ≡ true → smallest ws ≡ some q → p q ≡ true) → p r ≡ true
+    first-or-rest none eo er h ih = ap p (sym er ∙ ap (smaller w) eo) ∙ h .0
+    first-or-rest (some q) eo er h ih = ap p (sym er ∙ ap (smaller w) eo) ∙ either (ltb (q .figure) (w .figure)) (h .0) (ih q (h .1) eo)
+      where
+        either : (t : Bool) → p w ≡ true → p q ≡ true → p (cond t q w) ≡ true
+        either true a c = c
+        either false a c = a
+
+abbrev pub Held : (Row → Type 0) → Option Row → Type 0
+Held P none = Unit {0}
+Held P (some r) = P r
+
+pub held : (P : Row → Type 0) (ws : List Row) → Every P ws → Held P (smallest ws)
+unfolding smallest smaller Every
+held P [] h = tt
+held P (w ∷ ws) h = go (smallest ws) (held P ws (h .1))
+  where
+    pick : (q : Row) (t : Bool) → P q → P (cond t q w)
+    pick q true k = k
+    pick q false k = h .0
+
+    go : (o : Option Row) → Held P o → P (smaller w o)
+    go none k = h .0
+    go (some q) k = pick q (ltb (q .figure) (w .figure)) k
+
+pub smallest-every : (P : Row → Type 0) (ws : List Row) → Every P ws → (r : Row) → smallest ws ≡ some r → P r
+smallest-every P ws h r e = rw e at (held P ws h)

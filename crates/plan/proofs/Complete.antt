@@ -1,5 +1,5 @@
 -- A plan with a row for every node and every edge covers them all. Assumes nothing.
-use mathlib.Core.Path.{_≡_, refl, ap, _∙_}
+use mathlib.Core.Path.{_≡_, refl, _∙_}
 use mathlib.Core.Bool.{Bool, true, false, cond, not, _&&_}
 use mathlib.Core.List.{List, [], _∷_, _++_, flatMap}
 use mathlib.Core.Option.{Option, some, none}
@@ -10,13 +10,15 @@ use lib.ListN.{length, length-append, length-set}
 use Rattle.rules.specs.Lists.{range, allFrom, keep}
 use Rattle.rules.specs.Store.{constraintsRight}
 use Rattle.rules.specs.Pattern.{sizeOf, edgesOf}
-use Rattle.rules.specs.Plan.{noFigures, covered, figuresWith, figuresAfter, smallest, allWays, nodeRowsFrom, nodeRows, edgeWays, edgeCovered, figuresOf, listed, edgeRows, rowsOf, allCovered, bound, planWords}
+use Rattle.rules.specs.Plan.{mostRead, noFigures, covered, figuresWith, figuresAfter, smallest, allWays, nodeRowsFrom, nodeRows, edgeWays, edgeCovered, figuresOf, listed, edgeRows, rowsOf, allCovered, bound, planWords}
 use Rattle.rules.specs.declared.Row.{Row}
-use Rattle.laws.specs.Keeping.{keep-most}
-use Rattle.laws.specs.Covering.{uncovered, uncovered-less, next-says, next-positive, ways-uncovered, smallest-all, edge-some}
+use Rattle.laws.specs.Keep.{keep-most}
+use Rattle.laws.specs.Covering.{uncovered, uncovered-less, next-says, next-positive, ways-uncovered, edge-some}
+use Rattle.laws.specs.Smallest.{smallest-all}
+use Rattle.laws.specs.Range.{length-range}
 use Rattle.plan.specs.Plans.{refusedPlan, answeredPlan, boundedPlan, coveredPlan}
 use Rattle.plan.specs.declared.PlanRows.{PlanRows}
-use Rattle.plan.proofs.Planning.{node-few, edge-few, words-length}
+use Rattle.laws.specs.Rows.{node-few, edge-few, words-length}
 
 module _ (constraints b : List ℕ) (right : constraintsRight constraints ≡ true) (small : sizeOf b ≤ 8) where
   -- each node row leaves at least one node less uncovered
@@ -53,17 +55,12 @@ module _ (constraints b : List ℕ) (right : constraintsRight constraints ≡ tr
       go true ih h = ih h
       go false ih h = absurd (omega arith)
 
-  range-size : (k n : ℕ) → length (range k n) ≡ n
-  unfolding range
-  range-size k zero = refl
-  range-size k (suc n) = ap suc (range-size (k + 1) n)
-
   nodes-all : length (nodeRows constraints b) ≡ sizeOf b → allFrom (covered (figuresOf constraints b)) 0 (sizeOf b) ≡ true
   unfolding nodeRows figuresOf uncovered
   nodes-all h =
       let u = rows-uncover (sizeOf b) noFigures refl in
       let k = keep-most (λ u. not (covered noFigures u)) (range 0 (sizeOf b)) in
-      let e = range-size 0 (sizeOf b) in
+      let e = length-range 0 (sizeOf b) in
       keep-none (covered (figuresAfter noFigures (nodeRowsFrom constraints b (sizeOf b) noFigures))) 0 (sizeOf b) (omega arith)
 
   -- as many rows as edges, so each has one
@@ -98,9 +95,9 @@ module _ (constraints b : List ℕ) (right : constraintsRight constraints ≡ tr
   -- an answered plan has the words of its rows
   answered-length : (x : PlanRows) → x ≡ boundedPlan constraints b → x .number ≡ 0 → length (planWords constraints b) ≡ x .length
   unfolding boundedPlan answeredPlan refusedPlan
-  answered-length x e z = go (leb (bound constraints b) 65536) refl
+  answered-length x e z = go (leb (bound constraints b) mostRead) refl
     where
-      go : (t : Bool) → leb (bound constraints b) 65536 ≡ t → length (planWords constraints b) ≡ x .length
+      go : (t : Bool) → leb (bound constraints b) mostRead ≡ t → length (planWords constraints b) ≡ x .length
       go true h = rw (e, h)
       go false h = let k : _≡_ {A = ℕ} 8 0 = rw (e, h) at z in absurd (omega arith)
 

@@ -1,33 +1,34 @@
 -- What the tests of these functions come to. Assumes nothing.
 use mathlib.Core.Path.{_≡_, refl, sym, ap, _∙_}
 use mathlib.Core.Bool.{Bool, true, false, not}
-use mathlib.Core.List.{List, [], _∷_, _++_, map, flatMap, append-assoc}
-use mathlib.Core.Option.{Option, some, none}
-use Prim.Native.Nat.{ℕ, zero, suc, _+_, _-_, _*_, _≤_, _<_}
-use native.Mathlib.Nat.{zero-add}
+use mathlib.Core.List.{List, [], _∷_, _++_, flatMap}
+use Prim.Native.Nat.{ℕ, _+_, _*_, _≤_, _<_}
 use native.Mathlib.Omega.{arith}
-use lib.Dec.{eqb, leb}
+use native.Mathlib.Decide.{decLe}
+use lib.Dec.{ltb, leb, eqb}
 use lib.ListN.{length, take, drop, replicate, length-append, length-take}
 use lib.Seq.{take-append-seam}
-use borrow.Author.Tests.{not-true, not-false, ne-eqb, eq-eqb, le-leb, lt-leb}
+use borrow.Author.Tests.{not-true, not-false, ne-eqb, le-leb, lt-leb, le-ltb, lt-ltb}
 use Rattle.rules.specs.Words.{over}
 use Rattle.rules.specs.Lists.{range, sum}
-use Rattle.rules.specs.Store.{headerRight, constraintPart, constraintsIn, constraintAt, constraintAlone, constraintRight, constraintsRight}
+use Rattle.rules.specs.Store.{headerRight, constraintPart, constraintsIn, constraintsRight}
 use Rattle.rules.specs.Pattern.{sizeOf, edgesOf, patternLabel, patternRight}
-use Rattle.rules.specs.Plan.{noFigures, figuresWith, smallest, allWays, nodeRowsFrom, nodeRows, edgeWays, figuresOf, listed, edgeRows, rowsOf, allCovered, bound, rowWords, planWords}
-use Rattle.rules.specs.Answers.{Outcome, answered, refused, outcome, boundNumber, planNumber, planOutcome}
-use Rattle.rules.specs.declared.Row.{Row}
-use Rattle.laws.specs.Cases.{first-holds}
-use Rattle.laws.specs.Each.{all-each}
+use Rattle.rules.specs.Plan.{mostRead, noFigures, smallest, nodeRowsFrom, nodeRows, edgeWays, figuresOf, listed, edgeRows, rowsOf, allCovered, bound, rowWords, planWords}
+use Rattle.rules.specs.Answers.{_when_, firstOf, Outcome, planNumber, planOutcome}
+use Rattle.laws.specs.Outcomes.{answered, refused, outcome-refused, outcome-answered}
+use Rattle.laws.specs.Refusals.{first-given, first-passed, refuses, passes, boundNumber, plan-number}
 use Rattle.laws.specs.PatternLaws.{pattern-says, node-says, edge-says}
 use Rattle.laws.specs.Table.{Neighbours, Ends, right-ends}
 use Rattle.plan_ways.specs.Ways.{Known}
 use Rattle.plan_ways.specs.Given.{Given}
 use Rattle.plan_rows.specs.Rows.{total, NodesDone, EdgesDone}
 use Rattle.plan_rows.specs.declared.Stand.{Stand}
-use Rattle.laws.specs.Over.{over-over}
+use Rattle.laws.specs.Over.{over-over, over-start}
 use Rattle.laws.specs.Header.{header-limits}
 use Rattle.laws.specs.Parts.{constraints-in}
+use Rattle.laws.specs.Map.{flat-append}
+use Rattle.laws.specs.Sums.{sum-both}
+use Rattle.laws.specs.Rows.{node-few, edge-few, words-length}
 use Rattle.plan.specs.Plans.{refusedPlan, answeredPlan, boundedPlan, coveredPlan, planOf}
 use Rattle.plan.specs.declared.PlanRows.{PlanRows}
 
@@ -45,15 +46,11 @@ known-of b t h n =
       table = n;
     }
 
-pub alone-of : (constraints : List ℕ) → constraintsRight constraints ≡ true → (c : ℕ) → c < constraintsIn constraints → constraintAlone (constraintAt constraints c) ≡ true
-unfolding constraintsRight constraintRight
-alone-of constraints h c l = first-holds _ _ (all-each (constraintRight constraints) 0 (constraintsIn constraints) h c (omega arith) (omega arith))
-
 pub given-of : (constraints b : List ℕ) (t : List (List Bool)) (r p : Bool) → constraintsIn constraints ≤ 65535 → r ≡ constraintsRight constraints → not r ≡ false
     → p ≡ patternRight b → not p ≡ false → Neighbours b t → Given constraints b t
 given-of constraints b t r p few q h e k n =
     let right : constraintsRight constraints ≡ true = sym q ∙ not-false r h in
-    record { known = known-of b t (sym e ∙ not-false p k) n; count = few; right = right; alone = alone-of constraints right }
+    record { known = known-of b t (sym e ∙ not-false p k) n; count = few; right = right }
 
 pub ends-of : (b : List ℕ) (p : Bool) → p ≡ patternRight b → not p ≡ false → Ends b
 ends-of b p e k = right-ends b (sym e ∙ not-false p k)
@@ -82,33 +79,18 @@ module _ (constraints b : List ℕ) (r : Bool) (q : r ≡ allCovered constraints
   unfolding coveredPlan
   plan-bounded x h e = e ∙ rw (sym q ∙ not-false r h)
 
-pub plan-eight : (constraints b : List ℕ) (x : PlanRows) → 65536 < bound constraints b → x ≡ refusedPlan 8 → x ≡ boundedPlan constraints b
+pub plan-eight : (constraints b : List ℕ) (x : PlanRows) → mostRead < bound constraints b → x ≡ refusedPlan 8 → x ≡ boundedPlan constraints b
 unfolding boundedPlan
-plan-eight constraints b x h e = e ∙ rw (lt-leb (bound constraints b) 65536 h)
+plan-eight constraints b x h e = e ∙ rw (lt-leb (bound constraints b) mostRead h)
 
-pub plan-answered : (constraints b : List ℕ) (x : PlanRows) → bound constraints b ≤ 65536 → x ≡ answeredPlan constraints b → x ≡ boundedPlan constraints b
+pub plan-answered : (constraints b : List ℕ) (x : PlanRows) → bound constraints b ≤ mostRead → x ≡ answeredPlan constraints b → x ≡ boundedPlan constraints b
 unfolding boundedPlan
-plan-answered constraints b x h e = e ∙ rw (le-leb (bound constraints b) 65536 h)
+plan-answered constraints b x h e = e ∙ rw (le-leb (bound constraints b) mostRead h)
 
 -- ---- sums and words of all rows
-sum-rows : (xs ys : List Row) → sum (map (λ r. r .figure) (xs ++ ys)) ≡ sum (map (λ r. r .figure) xs) + sum (map (λ r. r .figure) ys)
-unfolding sum
-sum-rows [] ys = omega arith
-sum-rows (x ∷ xs) ys = let ih = sum-rows xs ys in omega arith
-
-words-rows : (xs ys : List Row) → flatMap rowWords (xs ++ ys) ≡ flatMap rowWords xs ++ flatMap rowWords ys
-unfolding flatMap
-words-rows [] ys = refl
-words-rows (x ∷ xs) ys = ap (λ l. rowWords x ++ l) (words-rows xs ys) ∙ sym (append-assoc (rowWords x) (flatMap rowWords xs) (flatMap rowWords ys))
-
-pub words-length : (xs : List Row) → length (flatMap rowWords xs) ≡ length xs * 8
-unfolding flatMap rowWords
-words-length [] = refl
-words-length (x ∷ xs) = let ih = words-length xs in omega arith
-
 bound-parts : (constraints b : List ℕ) → bound constraints b ≡ total (nodeRows constraints b) + total (edgeRows constraints b)
 unfolding bound rowsOf
-bound-parts constraints b = sum-rows (nodeRows constraints b) (edgeRows constraints b)
+bound-parts constraints b = sum-both (λ r. r .figure) (nodeRows constraints b) (edgeRows constraints b)
 
 -- ---- 8, and the rows
 module _ (constraints b rows₀ rows : List ℕ) (s : Stand) (nodes : NodesDone constraints b rows₀ rows s) where
@@ -142,7 +124,7 @@ module _ (constraints b rows₀ rows : List ℕ) (s : Stand) (nodes : NodesDone 
         two .written
         ∙ rw (at, one .written)
         (over-over rows₀ 0 (flatMap rowWords (nodeRows constraints b)) (omega arith) (flatMap rowWords (edgeRows constraints b))
-        ∙ ap (over rows₀ 0) (sym (words-rows (nodeRows constraints b) (edgeRows constraints b))))
+        ∙ ap (over rows₀ 0) (sym (flat-append rowWords (nodeRows constraints b) (edgeRows constraints b))))
 
     count-told : not (r .fits) ≡ false → r .count * 8 ≡ length (planWords constraints b)
     unfolding planWords rowsOf
@@ -162,36 +144,18 @@ module _ (constraints b rows₀ rows : List ℕ) (s : Stand) (nodes : NodesDone 
 
 -- ---- the outcome of planning
 pub number-told : (constraints b : List ℕ) → planOf constraints b .number ≡ boundNumber constraints b
-unfolding planOf coveredPlan boundedPlan answeredPlan refusedPlan boundNumber
-number-told constraints b = go (constraintsRight constraints) refl (patternRight b) refl (allCovered constraints b) refl (leb (bound constraints b) 65536) refl
+unfolding planOf coveredPlan boundedPlan answeredPlan refusedPlan boundNumber firstOf _when_
+number-told constraints b = go (constraintsRight constraints) refl (patternRight b) refl (allCovered constraints b) refl (decLe (bound constraints b) mostRead)
   where
-    go : (x : Bool) → constraintsRight constraints ≡ x → (y : Bool) → patternRight b ≡ y → (z : Bool) → allCovered constraints b ≡ z → (w : Bool) → leb (bound constraints b) 65536 ≡ w
+    go : (x : Bool) → constraintsRight constraints ≡ x → (y : Bool) → patternRight b ≡ y → (z : Bool) → allCovered constraints b ≡ z → Dec (bound constraints b ≤ mostRead)
         → planOf constraints b .number ≡ boundNumber constraints b
-    go false e y f z g w h = rw (e, boundNumber)
-    go true e false f z g w h = rw (e, f, boundNumber)
-    go true e true f false g w h = rw (e, f, g, boundNumber)
-    go true e true f true g false h = rw (e, f, g, h, boundNumber)
-    go true e true f true g true h = rw (e, f, g, h, boundNumber)
-
--- at most one row for each node and each edge
-pub node-few : (constraints b : List ℕ) (n : ℕ) (figures : List ℕ) → length (nodeRowsFrom constraints b n figures) ≤ n
-unfolding nodeRowsFrom
-node-few constraints b zero figures = omega arith
-node-few constraints b (suc n) figures = go (smallest (allWays constraints b figures)) (λ next. node-few constraints b n next)
-  where
-    go : (o : Option Row) → ((next : List ℕ) → length (nodeRowsFrom constraints b n next) ≤ n)
-        → length {A = Row} (elim o as (λ x. List Row) [ none ↦ [] | some r ↦ r ∷ nodeRowsFrom constraints b n (figuresWith figures r) ]) ≤ suc n
-    go none ih = omega arith
-    go (some r) ih = let k = ih (figuresWith figures r) in omega arith
-
-pub edge-few : (f : ℕ → Option Row) (k n : ℕ) → length (flatMap (λ j. listed (f j)) (range k n)) ≤ n
-unfolding flatMap range listed
-edge-few f k zero = omega arith
-edge-few f k (suc n) = go (f k) (edge-few f (k + 1) n)
-  where
-    go : (o : Option Row) → length (flatMap (λ j. listed (f j)) (range (k + 1) n)) ≤ n → length (listed o ++ flatMap (λ j. listed (f j)) (range (k + 1) n)) ≤ suc n
-    go none h = omega arith
-    go (some r) h = omega arith
+    go false e y f z g w = rw e
+    go true e false f z g w = rw (e, f)
+    go true e true f false g w = rw (e, f, g)
+    go true e true f true g (yes h) = rw (e, f, g, le-leb (bound constraints b) mostRead h, le-ltb mostRead (bound constraints b) h)
+    go true e true f true g (no h) =
+        let l : mostRead < bound constraints b = omega arith in
+        rw (e, f, g, lt-leb (bound constraints b) mostRead l, lt-ltb mostRead (bound constraints b) l)
 
 pub words-few : (constraints b : List ℕ) → length (planWords constraints b) ≤ (sizeOf b + edgesOf b) * 8
 unfolding planWords rowsOf nodeRows edgeRows
@@ -204,9 +168,9 @@ words-few constraints b =
 -- a plan with number 0 is the answered one, of a right pattern
 pub answered-of : (constraints b : List ℕ) → planOf constraints b .number ≡ 0 → (planOf constraints b ≡ answeredPlan constraints b) × (patternRight b ≡ true)
 unfolding planOf coveredPlan boundedPlan refusedPlan
-answered-of constraints b n = go (constraintsRight constraints) refl (patternRight b) refl (allCovered constraints b) refl (leb (bound constraints b) 65536) refl
+answered-of constraints b n = go (constraintsRight constraints) refl (patternRight b) refl (allCovered constraints b) refl (leb (bound constraints b) mostRead) refl
   where
-    go : (x : Bool) → constraintsRight constraints ≡ x → (y : Bool) → patternRight b ≡ y → (z : Bool) → allCovered constraints b ≡ z → (w : Bool) → leb (bound constraints b) 65536 ≡ w
+    go : (x : Bool) → constraintsRight constraints ≡ x → (y : Bool) → patternRight b ≡ y → (z : Bool) → allCovered constraints b ≡ z → (w : Bool) → leb (bound constraints b) mostRead ≡ w
         → (planOf constraints b ≡ answeredPlan constraints b) × (patternRight b ≡ true)
     go false e y f z g w h = let k : _≡_ {A = ℕ} 3 0 = rw e at n in absurd (omega arith)
     go true e false f z g w h = let k : _≡_ {A = ℕ} 6 0 = rw (e, f) at n in absurd (omega arith)
@@ -215,56 +179,48 @@ answered-of constraints b n = go (constraintsRight constraints) refl (patternRig
     go true e true f true g true h = (rw (e, f, g, h), f)
 
 -- ---- the outcome, by the tests of planning
-outcome-refused : (n : ℕ) (results written room work : List ℕ) → eqb n 0 ≡ false → outcome n results written room work ≡ refused n results room work
-unfolding outcome
-outcome-refused n results written room work z = rw (z, outcome)
-
-outcome-answered : (results written room work : List ℕ) → outcome 0 results written room work ≡ answered results written room work
-unfolding outcome
-outcome-answered results written room work = refl
-
-over-front : (room w : List ℕ) → over room 0 w ≡ w ++ drop (length w) room
-unfolding over
-over-front room w = rw zero-add
-
 module _ (s b room : List ℕ) where
-  refused-told : (n : ℕ) → planNumber s b room ≡ n → eqb n 0 ≡ false → _≡_ {A = Outcome} (record { number = n; results = 0 ∷ []; room = room; work = [] }) (planOutcome s b room)
+  refused-told : (n : ℕ) → planNumber s b room ≡ n → eqb n 0 ≡ false → _≡_ {A = Outcome} (record { number = n; results = 0 ∷ []; room = room; second = []; work = [] }) (planOutcome s b room)
   unfolding planOutcome refused
   refused-told n e z = sym (rw e (outcome-refused n (bound (constraintPart s) b ∷ []) (planWords (constraintPart s) b) room [] z))
 
   answered-told : planNumber s b room ≡ 0
-      → _≡_ {A = Outcome} (record { number = 0; results = bound (constraintPart s) b ∷ []; room = over room 0 (planWords (constraintPart s) b); work = [] }) (planOutcome s b room)
+      → _≡_ {A = Outcome} (record { number = 0; results = bound (constraintPart s) b ∷ []; room = over room 0 (planWords (constraintPart s) b); second = []; work = [] }) (planOutcome s b room)
   unfolding planOutcome answered
   answered-told e = sym (rw e (outcome-answered (bound (constraintPart s) b ∷ []) (planWords (constraintPart s) b) room []))
 
   module _ (r : Bool) (q : r ≡ headerRight s) where
-    pub told-one : not r ≡ true → _≡_ {A = Outcome} (record { number = 1; results = 0 ∷ []; room = room; work = [] }) (planOutcome s b room)
-    unfolding planNumber
-    told-one h = refused-told 1 (rw (sym q ∙ not-true r h, planNumber)) refl
+    pub told-one : not r ≡ true → _≡_ {A = Outcome} (record { number = 1; results = 0 ∷ []; room = room; second = []; work = [] }) (planOutcome s b room)
+    told-one h = refused-told 1 (plan-number s b room ∙ refuses 1 (not (headerRight s)) _ refl (sym (ap not q) ∙ h)) refl
 
     module _ (h : not r ≡ false) (p : PlanRows) (e : p ≡ planOf (constraintPart s) b) where
       number-is : p .number ≡ boundNumber (constraintPart s) b
       number-is = ap (λ x. x .number) e ∙ number-told (constraintPart s) b
 
-      pub told-other : (p .number ≡ 0 → ⊥) → _≡_ {A = Outcome} (record { number = p .number; results = 0 ∷ []; room = room; work = [] }) (planOutcome s b room)
-      unfolding planNumber
+      abbrev ten : ℕ
+      ten = 10 when ltb (length room) ((sizeOf b + edgesOf b) * 8)
+
+      rest-is : planNumber s b room ≡ firstOf (boundNumber (constraintPart s) b ∷ ten ∷ [])
+      rest-is = plan-number s b room ∙ passes 1 (not (headerRight s)) (boundNumber (constraintPart s) b ∷ ten ∷ []) (sym (ap not q) ∙ h)
+
+      pub told-other : (p .number ≡ 0 → ⊥) → _≡_ {A = Outcome} (record { number = p .number; results = 0 ∷ []; room = room; second = []; work = [] }) (planOutcome s b room)
       told-other n =
-          let z : eqb (boundNumber (constraintPart s) b) 0 ≡ false = ne-eqb (boundNumber (constraintPart s) b) 0 (λ x. n (number-is ∙ x)) in
-          rw number-is (refused-told (boundNumber (constraintPart s) b) (rw (sym q ∙ not-false r h, z, planNumber)) z)
+          let z : boundNumber (constraintPart s) b ≡ 0 → ⊥ = λ x. n (number-is ∙ x) in
+          rw number-is
+          (refused-told (boundNumber (constraintPart s) b) (rest-is ∙ first-given (boundNumber (constraintPart s) b) (ten ∷ []) z) (ne-eqb (boundNumber (constraintPart s) b) 0 z))
 
       module _ (zero-is : p .number ≡ 0) where
-        none-is : eqb (boundNumber (constraintPart s) b) 0 ≡ true
-        none-is = eq-eqb (boundNumber (constraintPart s) b) 0 (sym number-is ∙ zero-is)
+        ten-is : planNumber s b room ≡ firstOf (ten ∷ [])
+        ten-is = rest-is ∙ first-passed (boundNumber (constraintPart s) b) (ten ∷ []) (sym number-is ∙ zero-is)
 
-        pub told-ten : (n : ℕ) → n ≡ (sizeOf b + edgesOf b) * 8 → length room < n → _≡_ {A = Outcome} (record { number = 10; results = 0 ∷ []; room = room; work = [] }) (planOutcome s b room)
-        unfolding planNumber
+        pub told-ten : (n : ℕ) → n ≡ (sizeOf b + edgesOf b) * 8 → length room < n → _≡_ {A = Outcome} (record { number = 10; results = 0 ∷ []; room = room; second = []; work = [] }) (planOutcome s b room)
         told-ten n m short =
             let l : length room < (sizeOf b + edgesOf b) * 8 = omega arith in
-            refused-told 10 (rw (sym q ∙ not-false r h, none-is, lt-leb ((sizeOf b + edgesOf b) * 8) (length room) l, planNumber)) refl
+            refused-told 10 (ten-is ∙ refuses 10 _ [] refl (lt-ltb (length room) ((sizeOf b + edgesOf b) * 8) l)) refl
 
         answered-is : (sizeOf b + edgesOf b) * 8 ≤ length room → planNumber s b room ≡ 0
-        unfolding planNumber
-        answered-is l = rw (sym q ∙ not-false r h, none-is, le-leb ((sizeOf b + edgesOf b) * 8) (length room) l, planNumber)
+        unfolding firstOf
+        answered-is l = ten-is ∙ passes 10 _ [] (le-ltb (length room) ((sizeOf b + edgesOf b) * 8) l)
 
         both : (planOf (constraintPart s) b ≡ answeredPlan (constraintPart s) b) × (patternRight b ≡ true)
         both = answered-of (constraintPart s) b (sym (ap (λ x. x .number) e) ∙ zero-is)
@@ -291,12 +247,12 @@ module _ (s b room : List ℕ) where
         rows-are = rw (length-is, ap (λ x. x .rows) (e ∙ both .0)) (take-append-seam (planWords (constraintPart s) b) (drop (0 + length (planWords (constraintPart s) b)) (replicate 512 0)))
 
         pub told-zero : (after : List ℕ) (n : ℕ) → n ≡ (sizeOf b + edgesOf b) * 8 → n ≤ length room → after ≡ take (p .length) (p .rows) ++ drop (length (take (p .length) (p .rows))) room
-            → _≡_ {A = Outcome} (record { number = 0; results = p .bound ∷ []; room = after; work = [] }) (planOutcome s b room)
+            → _≡_ {A = Outcome} (record { number = 0; results = p .bound ∷ []; room = after; second = []; work = [] }) (planOutcome s b room)
         unfolding answeredPlan
         told-zero after n m k a =
             let l : (sizeOf b + edgesOf b) * 8 ≤ length room = omega arith in
             let t : p .bound ≡ bound (constraintPart s) b = ap (λ x. x .bound) (e ∙ both .0) in
-            rw (a, rows-are, t, ← over-front room (planWords (constraintPart s) b)) (answered-told (answered-is l))
+            rw (a, rows-are, t, ← over-start room (planWords (constraintPart s) b)) (answered-told (answered-is l))
 
 -- a right header counts few constraints
 pub few-constraints : (s : List ℕ) (r : Bool) → r ≡ headerRight s → not r ≡ false → (part : List ℕ) → part ≡ constraintPart s → constraintsIn part ≤ 65535

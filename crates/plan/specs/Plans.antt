@@ -7,7 +7,7 @@ use lib.ListN.{length, replicate}
 use Rattle.rules.specs.Words.{over}
 use Rattle.rules.specs.Store.{constraintsRight}
 use Rattle.rules.specs.Pattern.{patternRight}
-use Rattle.rules.specs.Plan.{allCovered, bound, planWords}
+use Rattle.rules.specs.Plan.{mostRead, allCovered, bound, planWords}
 use Rattle.rules.specs.Answers.{Outcome}
 use Rattle.rules.specs.declared.Planned.{Planned}
 use Rattle.plan.specs.declared.PlanRows.{PlanRows}
@@ -27,7 +27,7 @@ answeredPlan constraints b = record {
 
 -- by 8, 7, 6 and 3, from the last to the first
 unfoldable pub boundedPlan : List ℕ → List ℕ → PlanRows
-boundedPlan constraints b = cond (leb (bound constraints b) 65536) (answeredPlan constraints b) (refusedPlan 8)
+boundedPlan constraints b = cond (leb (bound constraints b) mostRead) (answeredPlan constraints b) (refusedPlan 8)
 
 unfoldable pub coveredPlan : List ℕ → List ℕ → PlanRows
 coveredPlan constraints b = cond (allCovered constraints b) (boundedPlan constraints b) (refusedPlan 7)
@@ -37,4 +37,4 @@ planOf constraints b = cond (constraintsRight constraints) (cond (patternRight b
 
 -- an answer of planning with its room, as an outcome
 abbrev pub planTold : Planned → List ℕ → Outcome
-planTold r room = record { number = r .number; results = r .bound ∷ []; room = room; work = [] }
+planTold r room = record { number = r .number; results = r .bound ∷ []; room = room; second = []; work = [] }

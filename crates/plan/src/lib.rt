@@ -44,7 +44,7 @@ fn bounded(constraints: &[u8], b: &[u8], t: [[bool; 8]; 8]) -> PlanRows
     if !all.fits {
         return refused(8);
     }
-    if 65536 < all.sum {
+    if rules::MOST_READ < all.sum {
         return refused(8);
     }
     PlanRows {
@@ -63,8 +63,8 @@ fn rows_length(b: &[u8]) -> usize
     (pattern::size_of(b) + pattern::edges_of(b)) * 8
 }
 
-// The plan of right constraints and a right pattern, or 7 or 8. Where every node and edge has its row, all are covered.
-fn covered_plan(constraints: &[u8], b: &[u8], t: [[bool; 8]; 8]) -> PlanRows
+// The plan of right constraints and a right pattern, with the pattern's table, or 7 or 8. Where every node and edge has its row, all are covered.
+pub fn covered_plan(constraints: &[u8], b: &[u8], t: [[bool; 8]; 8]) -> PlanRows
     requires { ⌜ Given (now constraints) (now b) t ⌝ }
     ensures { λ r. ⌜ r ≡ coveredPlan (now (constraints .entry)) (now (b .entry)) ⌝ }
 {
@@ -81,7 +81,7 @@ fn covered_plan(constraints: &[u8], b: &[u8], t: [[bool; 8]; 8]) -> PlanRows
 }
 
 // The plan for constraints and a pattern, or 3, 6, 7 or 8.
-pub fn plan_of(constraints: &[u8], b: &[u8]) -> PlanRows
+fn plan_of(constraints: &[u8], b: &[u8]) -> PlanRows
     requires { ⌜ constraintsIn (now constraints) ≤ 65535 ⌝ }
     ensures { λ r. ⌜ r ≡ planOf (now (constraints .entry)) (now (b .entry)) ⌝ }
 {

@@ -65,7 +65,7 @@ pub fn node_rows(constraints: &[u8], b: &[u8], t: [[bool; 8]; 8], rows: &mut [u3
         if !best.found {
             return stand_of(figures, count, sum, true);
         }
-        if 65536 < row.figure {
+        if rules::MOST_READ < row.figure {
             return stand_of(figures, count, sum, false);
         }
         put_row(rows, count * 8, row);
@@ -98,7 +98,7 @@ pub fn edge_rows(
         let row = best.row;
         j += 1;
         if best.found {
-            if 65536 < row.figure {
+            if rules::MOST_READ < row.figure {
                 return stand_of(figures, count, sum, false);
             }
             put_row(rows, count * 8, row);

@@ -13,8 +13,9 @@ use Rattle.rules.specs.Lists.{range}
 use Rattle.rules.specs.Pattern.{sizeOf, patternLabel}
 use Rattle.rules.specs.Plan.{figureOf, covered, coveredWith, smaller, smallest, rowOf}
 use Rattle.rules.specs.declared.Row.{Row}
-use Rattle.laws.specs.Smallest.{better, better-none, map-keep, BestLeft, best-start, best-next}
-use Rattle.laws.specs.Choices.{nodeOnly, least}
+use Rattle.laws.specs.Smallest.{better, better-none, BestLeft, best-start, best-next}
+use Rattle.laws.specs.Keep.{map-keep}
+use Rattle.laws.specs.Least.{nodeOnly, least}
 use Rattle.plan_ways.specs.Ways.{wayIn, taken, slotOf, rowBy, wayBy, suited, Known}
 use Rattle.plan_ways.specs.declared.Best.{Best}
 use Rattle.plan_ways.specs.declared.Slot.{Slot}

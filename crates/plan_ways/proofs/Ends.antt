@@ -1,61 +1,35 @@
 -- What a node's ways by a constraint, and an edge's, come to: the best slots. Assumes nothing.
-use mathlib.Core.Path.{_≡_, refl, sym, ap, subst, _∙_}
-use mathlib.Core.Bool.{Bool, true, false, cond, not, _&&_, _||_, false≢true, or-true, or-false, or-assoc, and-true, and-false}
-use mathlib.Core.List.{List, [], _∷_, _++_, map}
+use mathlib.Core.Path.{_≡_, refl, sym, ap, _∙_}
+use mathlib.Core.Bool.{Bool, true, false, cond, not, _&&_, _||_, or-false, or-assoc, and-true, and-false}
+use mathlib.Core.List.{List, [], _∷_, map, map-map}
 use mathlib.Core.Option.{Option, some, none}
-use Prim.Native.Nat.{ℕ, zero, suc, _+_, _≤_, _<_}
-use native.Mathlib.Decide.{decLe}
-use native.Mathlib.Numerals.{add-one}
+use Prim.Native.Nat.{ℕ, suc, _≤_, _<_}
 use native.Mathlib.Omega.{arith}
-use lib.Dec.{eqb, ltb, leb}
-use borrow.Author.Tests.{eqb-true, eq-eqb, ne-eqb, leb-true, ltb-true, not-true, not-false}
-use Rattle.rules.specs.Lists.{range, all, any, keep, has, choices, From}
+use lib.Dec.{eqb, ltb}
+use borrow.Author.Tests.{eqb-true, eq-eqb, ne-eqb, ltb-true, not-true, not-false}
+use Rattle.rules.specs.Lists.{range, all, any, keep, has, choices}
+use Rattle.laws.specs.Strict.{From}
 use Rattle.rules.specs.Store.{labelsOf, labelAfter, constraintAlone}
 use Rattle.rules.specs.Pattern.{sizeOf, patternLabel, joined}
 use Rattle.rules.specs.Plan.{figureOf, covered, coveredWith, waysBy, smallest, rowOf}
 use Rattle.rules.specs.declared.Row.{Row}
 use Rattle.rules.specs.declared.Constraint.{Constraint}
 use Rattle.laws.specs.Cases.{first-holds, second-holds}
-use Rattle.laws.specs.Choices.{least, nodeOnly, each-smallest, GoodIf, least-good}
-use Rattle.laws.specs.Chosen.{narrow, Once, keep-has, strict-once}
-use Rattle.laws.specs.Members.{has-keep, keep-from}
+use Rattle.laws.specs.Least.{least, nodeOnly, each-smallest, GoodIf, least-good}
+use Rattle.laws.specs.Choices.{narrow, Once, keep-has, strict-once}
+use Rattle.laws.specs.Keep.{has-keep, keep-from}
+use Rattle.laws.specs.Range.{range-has, range-from}
+use Rattle.laws.specs.All.{all-keep, all-map, all-member}
+use Rattle.laws.specs.Constraints.{most-positive, most-small}
 use Rattle.plan_ways.specs.Ways.{taken, slotOf, wayBy, suited, Small}
 use Rattle.plan_ways.specs.declared.Slot.{Slot}
 use Rattle.plan_ways.proofs.Slots.{made, slots-way, second-zero, third-zero, orders}
-
--- ---- ranges
-has-range : (o k n : ℕ) → k ≤ o → o < k + n → has o (range k n) ≡ true
-unfolding has range
-has-range o k zero h l = absurd (omega arith)
-has-range o k (suc n) h l = go (decLe (suc k) o) (has-range o (k + 1) n)
-  where
-    go : Dec (suc k ≤ o) → (k + 1 ≤ o → o < k + 1 + n → has o (range (k + 1) n) ≡ true) → (eqb o k || has o (range (k + 1) n)) ≡ true
-    go (yes d) ih = rw (ih (omega arith) (omega arith)) (or-true (eqb o k))
-    go (no d) ih = rw (eq-eqb o k (omega arith))
-
-range-from : (k n : ℕ) → From k (range k n)
-unfolding From range
-range-from k zero = tt
-range-from k (suc n) = (omega arith, ap-from n (range-from (k + 1) n))
-  where
-    ap-from : (n : ℕ) → From (k + 1) (range (k + 1) n) → From (suc k) (range (k + 1) n)
-    ap-from n f = subst (λ m. From m (range (k + 1) n)) (add-one k) f
-
--- what holds of all that are kept
-pub all-kept : (p q : ℕ → Bool) → ((x : ℕ) → p x ≡ true → q x ≡ true) → (xs : List ℕ) → all q (keep p xs) ≡ true
-unfolding all keep
-all-kept p q f [] = refl
-all-kept p q f (x ∷ xs) = go (p x) refl (all-kept p q f xs)
-  where
-    go : (t : Bool) → p x ≡ t → all q (keep p xs) ≡ true → all q (cond t (x ∷ []) [] ++ keep p xs) ≡ true
-    go true e ih = rw (f x e) ih
-    go false e ih = ih
 
 -- ---- the covered neighbours with a label
 module _ (b figures : List ℕ) (u : ℕ) where
   pub has-covered : (l o : ℕ) → o < sizeOf b → has o (coveredWith b figures u l) ≡ suited b figures u l o
   unfolding coveredWith
-  has-covered l o h = has-keep (suited b figures u l) o (range 0 (sizeOf b)) ∙ rw (has-range o 0 (sizeOf b) (omega arith) (omega arith)) (and-true (suited b figures u l o))
+  has-covered l o h = has-keep (suited b figures u l) o (range 0 (sizeOf b)) ∙ rw (range-has o 0 (sizeOf b) (omega arith) (omega arith)) (and-true (suited b figures u l o))
 
   has-figure : (w l : ℕ) → suited b figures u l w ≡ true → not (eqb (figureOf figures w) 0) ≡ true
   unfolding covered
@@ -63,33 +37,13 @@ module _ (b figures : List ℕ) (u : ℕ) where
 
   pub all-covered : (l : ℕ) → all (λ w. not (eqb (figureOf figures w) 0)) (coveredWith b figures u l) ≡ true
   unfolding coveredWith
-  all-covered l = all-kept (suited b figures u l) (λ w. not (eqb (figureOf figures w) 0)) (λ w h. has-figure w l h) (range 0 (sizeOf b))
+  all-covered l = all-keep (suited b figures u l) (λ w. not (eqb (figureOf figures w) 0)) (range 0 (sizeOf b)) (λ w h. has-figure w l h)
 
   covered-from : (l : ℕ) → From 0 (coveredWith b figures u l)
   unfolding coveredWith
   covered-from l = keep-from (suited b figures u l) 0 (range 0 (sizeOf b)) (range-from 0 (sizeOf b))
 
 -- ---- the ways of a node by a constraint
--- N of a right constraint is at least 1
-pub most-positive : (d : Constraint) → constraintAlone d ≡ true → 0 < d .most
-unfolding constraintAlone
-most-positive d h =
-    let o = labelAfter (d .first) (d .second) && labelAfter (d .second) (d .third) && not (eqb (d .label) 0) in
-    leb-true 1 (d .most) (second-holds o _ (first-holds (o && leb 1 (d .most)) _ h))
-
-pub most-small : (d : Constraint) → constraintAlone d ≡ true → d .most ≤ 65535
-unfolding constraintAlone
-most-small d h =
-    let o = labelAfter (d .first) (d .second) && labelAfter (d .second) (d .third) && not (eqb (d .label) 0) in
-    leb-true (d .most) 65535 (second-holds (o && leb 1 (d .most)) _ h)
-
--- lists from labels, each with positive figures
-lists-positive : (f : ℕ → ℕ) (h : ℕ → List ℕ) → ((l : ℕ) → all (λ w. not (eqb (f w) 0)) (h l) ≡ true) → (ls : List ℕ)
-    → all (all (λ w. not (eqb (f w) 0))) (map h ls) ≡ true
-unfolding all
-lists-positive f h good [] = refl
-lists-positive f h good (l ∷ ls) = rw (good l) (lists-positive f h good ls)
-
 -- the best slots make the smallest of the ways that choose from these lists
 pub slots-smallest : (f : ℕ → ℕ) (own : Row) (h : ℕ → List ℕ) → ((l : ℕ) → all (λ w. not (eqb (f w) 0)) (h l) ≡ true)
     → (d : Constraint) → constraintAlone d ≡ true
@@ -98,7 +52,7 @@ pub slots-smallest : (f : ℕ → ℕ) (own : Row) (h : ℕ → List ℕ) → ((
 unfolding rowOf
 slots-smallest f own h good d alone =
     slots-way f own (d .most) h good d alone
-    ∙ sym (each-smallest f (map h (labelsOf d)) (lists-positive f h good (labelsOf d)) (d .most) (most-positive d alone) (made f own (d .most)) (λ c. refl))
+    ∙ sym (each-smallest f (map h (labelsOf d)) (all-map (all (λ w. not (eqb (f w) 0))) h (labelsOf d) good) (d .most) (most-positive d alone) (made f own (d .most)) (λ c. refl))
 
 -- what a function takes the ways of a node by a constraint for: none where the label differs, else the best slots
 module _ (b figures : List ℕ) (u label : ℕ) (d : Constraint) (told : label ≡ patternLabel b u) (mk : List ℕ → Row) where
@@ -189,13 +143,8 @@ module _ (b figures : List ℕ) (u o : ℕ) (here : o < sizeOf b) where
           ∙ sym (or-assoc (suited b figures u (d .first) o) (suited b figures u (d .second) o) (suited b figures u (d .third) o)))
 
 member-all : (f : ℕ → ℕ) (o : ℕ) (xs : List ℕ) → all (λ w. not (eqb (f w) 0)) xs ≡ true → has o xs ≡ true → all (λ w. not (eqb (f w) 0)) (o ∷ []) ≡ true
-unfolding all has
-member-all f o [] h e = absurd (false≢true e)
-member-all f o (x ∷ xs) h e = go (eqb o x) refl e (member-all f o xs (second-holds (not (eqb (f x) 0)) _ h))
-  where
-    go : (t : Bool) → eqb o x ≡ t → (t || has o xs) ≡ true → (has o xs ≡ true → (not (eqb (f o) 0) && true) ≡ true) → (not (eqb (f o) 0) && true) ≡ true
-    go true q e ih = rw (eqb-true o x q, first-holds (not (eqb (f x) 0)) (all (λ w. not (eqb (f w) 0)) xs) h)
-    go false q e ih = ih e
+unfolding all
+member-all f o xs h e = rw (all-member (λ w. not (eqb (f w) 0)) o xs h e)
 
 -- a list in which o is fixed has positive figures too
 narrow-positive : (f : ℕ → ℕ) (o : ℕ) (xs : List ℕ) → all (λ w. not (eqb (f w) 0)) xs ≡ true → all (λ w. not (eqb (f w) 0)) (narrow o xs) ≡ true
@@ -205,17 +154,13 @@ narrow-positive f o xs h = go (has o xs) refl
     go true e = member-all f o xs h e
     go false e = h
 
-map-labels : (g : List ℕ → List ℕ) (h : ℕ → List ℕ) (ls : List ℕ) → map g (map h ls) ≡ map (λ l. g (h l)) ls
-map-labels g h [] = refl
-map-labels g h (l ∷ ls) = ap (λ t. g (h l) ∷ t) (map-labels g h ls)
-
 -- the ways of an edge, where its fetched end u has the constraint's label and o is the other end
 module _ (b figures : List ℕ) (u o : ℕ) (here : o < sizeOf b) (d : Constraint) (alone : constraintAlone d ≡ true) where
   ends-kept : keep (has o) (choices (map (coveredWith b figures u) (labelsOf d)))
       ≡ cond (any (has o) (map (coveredWith b figures u) (labelsOf d))) (choices (map (λ l. narrow o (coveredWith b figures u l)) (labelsOf d))) []
   ends-kept =
       keep-has o (map (coveredWith b figures u) (labelsOf d)) (once-there b figures u o here 0 (labelsOf d) (labels-from d alone))
-      ∙ ap (λ ls. cond (any (has o) (map (coveredWith b figures u) (labelsOf d))) (choices ls) []) (map-labels (narrow o) (coveredWith b figures u) (labelsOf d))
+      ∙ ap (λ ls. cond (any (has o) (map (coveredWith b figures u) (labelsOf d))) (choices ls) []) (map-map (narrow o) (coveredWith b figures u) (labelsOf d))
 
   module _ (label : ℕ) (told : label ≡ patternLabel b u) (agrees : label ≡ d .label) (r : Bool)
       (asked : r ≡ (suited b figures u (d .first) o || suited b figures u (d .second) o || suited b figures u (d .third) o)) (nz : not (eqb (patternLabel b o) 0) ≡ true) where

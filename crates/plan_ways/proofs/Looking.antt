@@ -14,7 +14,8 @@ use Rattle.rules.specs.Pattern.{sizeOf, edgesOf, patternLabel, patternFrom, pat
 use Rattle.rules.specs.Plan.{covered, figureBy, smallest, nodeWays, allWays, endsOf, otherEnd, endWays, edgeWays}
 use Rattle.rules.specs.declared.Row.{Row}
 use Rattle.rules.specs.declared.Constraint.{Constraint}
-use Rattle.laws.specs.Smallest.{better, smallest-append, BestLeft, best-start, flat-keep}
+use Rattle.laws.specs.Smallest.{better, smallest-append, BestLeft, best-start}
+use Rattle.laws.specs.Keep.{flat-keep}
 use Rattle.plan_ways.specs.Ways.{Known, suited, nodeBy, endBy, nodeSlots, endSlots}
 use Rattle.plan_ways.proofs.Ends.{label-differs, node-made, end-differs, end-missing, end-made}
 

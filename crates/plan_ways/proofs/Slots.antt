@@ -12,7 +12,7 @@ use Rattle.rules.specs.Plan.{rowOf}
 use Rattle.rules.specs.declared.Row.{Row}
 use Rattle.rules.specs.declared.Constraint.{Constraint}
 use Rattle.laws.specs.Cases.{first-holds, second-holds}
-use Rattle.laws.specs.Choices.{least, via, leastEach, GoodIf, least-good}
+use Rattle.laws.specs.Least.{least, via, leastEach, GoodIf, least-good}
 use Rattle.plan_ways.specs.Ways.{taken, slotOf, wayBy}
 use Rattle.plan_ways.specs.declared.Slot.{Slot}
 

@@ -12,8 +12,8 @@ use Rattle.rules.specs.Store.{constraintsIn, constraintAt, constraintAlone}
 use Rattle.rules.specs.Plan.{rowOf, figureOf, covered, coveredWith, waysBy, figureBy}
 use Rattle.rules.specs.declared.Constraint.{Constraint}
 use Rattle.laws.specs.Table.{Neighbours}
-use Rattle.laws.specs.Choices.{least}
-use Rattle.laws.specs.Chosen.{narrow}
+use Rattle.laws.specs.Least.{least}
+use Rattle.laws.specs.Choices.{narrow}
 use Rattle.rules.specs.declared.Row.{Row}
 use Rattle.plan_ways.specs.declared.Best.{Best}
 use Rattle.plan_ways.specs.declared.Slot.{Slot}

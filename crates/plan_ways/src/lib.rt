@@ -10,8 +10,8 @@ ghost use Rattle.rules.specs.Store.{constraintsIn};
 ghost use Rattle.rules.specs.Pattern.{sizeOf, edgesOf};
 ghost use Rattle.rules.specs.Plan.{figureOf, covered, coveredWith, smallest, nodeWays, allWays, endsOf, endWays, edgeWays};
 ghost use Rattle.laws.specs.Smallest.{better};
-ghost use Rattle.laws.specs.Choices.{nodeOnly, least};
-ghost use Rattle.laws.specs.Chosen.{narrow};
+ghost use Rattle.laws.specs.Least.{nodeOnly, least};
+ghost use Rattle.laws.specs.Choices.{narrow};
 ghost use Rattle.plan_ways.specs.Ways.{wayIn, slotOf, wayBy, Known, Small, WaysReady, suited, nodeBy, endBy, nodeSlots, endSlots};
 
 // The best way so far, if there is one.

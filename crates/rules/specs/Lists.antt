@@ -1,9 +1,9 @@
 -- The few functions on lists that the definitions use.
-use Prim.Native.Nat.{ℕ, zero, suc, _+_, _*_, _/_, _≤_}
+use Prim.Native.Nat.{ℕ, zero, suc, _+_, _*_, _/_}
 use mathlib.Core.Bool.{Bool, true, false, cond, _&&_, _||_}
 use mathlib.Core.List.{List, [], _∷_, _++_, map, flatMap}
 use lib.Dec.{ltb, leb, eqb}
-use lib.ListN.{length, take}
+use lib.ListN.{take}
 
 -- k, k + 1, ..: n numbers
 unfoldable pub range : ℕ → ℕ → List ℕ
@@ -19,11 +19,6 @@ allFrom p k (suc n) = p k && allFrom p (k + 1) n
 unfoldable pub anyFrom : (ℕ → Bool) → ℕ → ℕ → Bool
 anyFrom p k zero = false
 anyFrom p k (suc n) = p k || anyFrom p (k + 1) n
-
--- a, taken through k, k + 1, ..: through n numbers
-unfoldable pub foldFrom : {A : Type 0} → (ℕ → A → A) → ℕ → ℕ → A → A
-foldFrom f k zero a = a
-foldFrom f k (suc n) a = foldFrom f (k + 1) n (f k a)
 
 -- p holds of every element
 unfoldable pub all : {A : Type 0} → (A → Bool) → List A → Bool
@@ -87,15 +82,6 @@ uniq (x ∷ xs) = x ∷ uniqAfter x xs
 -- each number once, ascending
 unfoldable pub setOf : List ℕ → List ℕ
 setOf l = uniq (sortOf l)
-
--- strictly ascending, from n on
-unfoldable pub From : ℕ → List ℕ → Type 0
-From n [] = Unit {0}
-From n (y ∷ ys) = (n ≤ y) × From (suc y) ys
-
--- strictly ascending
-abbrev pub Strict : List ℕ → Type 0
-Strict l = From 0 l
 
 -- a before b, or equal and then so
 abbrev pub lessThen : ℕ → ℕ → Bool → Bool

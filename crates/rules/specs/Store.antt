@@ -1,175 +1,175 @@
--- The graph store: header, sections, records, and what makes each right. A list of numbers is the whole store or one section's bytes.
+-- The graph store: header, sections, records, and what makes each right.
 use Prim.Native.Nat.{ℕ, _+_, _-_, _*_, _/_}
 use mathlib.Core.Bool.{Bool, not, _&&_, _||_}
-use mathlib.Core.List.{List, [], _∷_, _++_}
+use mathlib.Core.List.{List, [], _∷_}
 use lib.Dec.{ltb, leb, eqb}
 use lib.ListN.{length}
-use Rattle.rules.specs.Words.{u16At, u32At, encoded, part}
+use Rattle.rules.specs.Words.{Bytes, Section, u16At, u32At, encoded, part}
 use Rattle.rules.specs.Lists.{allFrom, keep, lessThen}
 use Rattle.rules.specs.declared.Constraint.{Constraint}
-use Rattle.rules.specs.declared.Edge.{Edge}
 
 -- the five counts: nodes n, edges m, constraints k, groups g, entries e
-abbrev pub nodeCount : List ℕ → ℕ
+abbrev pub nodeCount : Bytes → ℕ
 nodeCount s = u32At s 4
 
-abbrev pub edgeCount : List ℕ → ℕ
+abbrev pub edgeCount : Bytes → ℕ
 edgeCount s = u32At s 8
 
-abbrev pub constraintCount : List ℕ → ℕ
+abbrev pub constraintCount : Bytes → ℕ
 constraintCount s = u32At s 12
 
-abbrev pub groupCount : List ℕ → ℕ
+abbrev pub groupCount : Bytes → ℕ
 groupCount s = u32At s 16
 
-abbrev pub entryCount : List ℕ → ℕ
+abbrev pub entryCount : Bytes → ℕ
 entryCount s = u32At s 20
 
--- the forced offsets: sections follow the 48-byte header without gaps
-abbrev pub edgesAt : List ℕ → ℕ
-edgesAt s = 48 + nodeCount s * 8
+-- the forced offsets of sections with these counts, and the total: sections follow the 48-byte header without gaps
+abbrev pub edgesFrom : ℕ → ℕ
+edgesFrom n = 48 + n * 8
 
-abbrev pub constraintsAt : List ℕ → ℕ
-constraintsAt s = edgesAt s + edgeCount s * 8
+abbrev pub constraintsFrom : ℕ → ℕ → ℕ
+constraintsFrom n m = edgesFrom n + m * 8
 
-abbrev pub groupsAt : List ℕ → ℕ
-groupsAt s = constraintsAt s + constraintCount s * 12
+abbrev pub groupsFrom : ℕ → ℕ → ℕ → ℕ
+groupsFrom n m k = constraintsFrom n m + k * 12
 
-abbrev pub entriesAt : List ℕ → ℕ
-entriesAt s = groupsAt s + groupCount s * 24
+abbrev pub entriesFrom : ℕ → ℕ → ℕ → ℕ → ℕ
+entriesFrom n m k g = groupsFrom n m k + g * 24
 
-abbrev pub endAt : List ℕ → ℕ
-endAt s = entriesAt s + entryCount s * 8
+abbrev pub endFrom : ℕ → ℕ → ℕ → ℕ → ℕ → ℕ
+endFrom n m k g e = entriesFrom n m k g + e * 8
+
+-- those of a store
+abbrev pub edgesAt : Bytes → ℕ
+edgesAt s = edgesFrom (nodeCount s)
+
+abbrev pub constraintsAt : Bytes → ℕ
+constraintsAt s = constraintsFrom (nodeCount s) (edgeCount s)
+
+abbrev pub groupsAt : Bytes → ℕ
+groupsAt s = groupsFrom (nodeCount s) (edgeCount s) (constraintCount s)
+
+abbrev pub entriesAt : Bytes → ℕ
+entriesAt s = entriesFrom (nodeCount s) (edgeCount s) (constraintCount s) (groupCount s)
+
+abbrev pub endAt : Bytes → ℕ
+endAt s = endFrom (nodeCount s) (edgeCount s) (constraintCount s) (groupCount s) (entryCount s)
 
 -- at most 65,535 nodes, 262,144 edges, 32 constraints, 262,144 groups and 1,048,576 entries
-unfoldable pub countsRight : List ℕ → Bool
+abbrev pub mostNodes : ℕ
+mostNodes = 65535
+
+abbrev pub mostEdges : ℕ
+mostEdges = 262144
+
+abbrev pub mostConstraints : ℕ
+mostConstraints = 32
+
+abbrev pub mostGroups : ℕ
+mostGroups = 262144
+
+abbrev pub mostEntries : ℕ
+mostEntries = 1048576
+
+unfoldable pub countsRight : Bytes → Bool
 countsRight s =
-    leb (nodeCount s) 65535 && leb (edgeCount s) 262144 && leb (constraintCount s) 32
-    && leb (groupCount s) 262144 && leb (entryCount s) 1048576
+    leb (nodeCount s) mostNodes && leb (edgeCount s) mostEdges && leb (constraintCount s) mostConstraints
+    && leb (groupCount s) mostGroups && leb (entryCount s) mostEntries
 
 -- the offsets of the five sections and the total are the forced ones
-unfoldable pub offsetsRight : List ℕ → Bool
+unfoldable pub offsetsRight : Bytes → Bool
 offsetsRight s =
     eqb (u32At s 24) 48 && eqb (u32At s 28) (edgesAt s) && eqb (u32At s 32) (constraintsAt s)
     && eqb (u32At s 36) (groupsAt s) && eqb (u32At s 40) (entriesAt s) && eqb (u32At s 44) (endAt s)
 
 -- the twelve words are right: format 1, counts, offsets, and the total is the length lent
-unfoldable pub wordsRight : List ℕ → Bool
+unfoldable pub wordsRight : Bytes → Bool
 wordsRight s = eqb (u32At s 0) 1 && countsRight s && offsetsRight s && eqb (u32At s 44) (length s)
 
 -- there is a header, and it is right
-unfoldable pub headerRight : List ℕ → Bool
+unfoldable pub headerRight : Bytes → Bool
 headerRight s = leb 48 (length s) && wordsRight s
 
 -- a draft's header: right, with g = e = 0
-unfoldable pub draftRight : List ℕ → Bool
+unfoldable pub draftRight : Bytes → Bool
 draftRight s = headerRight s && (eqb (groupCount s) 0 && eqb (entryCount s) 0)
 
 -- the sections
-abbrev pub nodePart : List ℕ → List ℕ
+abbrev pub nodePart : Bytes → Section
 nodePart s = part s 48 (edgesAt s)
 
-abbrev pub edgePart : List ℕ → List ℕ
+abbrev pub edgePart : Bytes → Section
 edgePart s = part s (edgesAt s) (constraintsAt s)
 
-abbrev pub constraintPart : List ℕ → List ℕ
+abbrev pub constraintPart : Bytes → Section
 constraintPart s = part s (constraintsAt s) (groupsAt s)
 
-abbrev pub groupPart : List ℕ → List ℕ
+abbrev pub groupPart : Bytes → Section
 groupPart s = part s (groupsAt s) (entriesAt s)
 
-abbrev pub entryPart : List ℕ → List ℕ
+abbrev pub entryPart : Bytes → Section
 entryPart s = part s (entriesAt s) (endAt s)
 
--- the parts before and after the edge section; the first has the header and the nodes
-abbrev pub beforeEdges : List ℕ → List ℕ
-beforeEdges s = part s 0 (edgesAt s)
-
-abbrev pub afterEdges : List ℕ → List ℕ
-afterEdges s = part s (constraintsAt s) (endAt s)
-
--- the sections, found in these two parts
-abbrev pub nodesBefore : List ℕ → List ℕ
-nodesBefore before = part before 48 (edgesAt before)
-
-abbrev pub constraintsAfter : List ℕ → List ℕ → List ℕ
-constraintsAfter before after = part after 0 (constraintCount before * 12)
-
-abbrev pub groupsAfter : List ℕ → List ℕ → List ℕ
-groupsAfter before after = part after (constraintCount before * 12) (constraintCount before * 12 + groupCount before * 24)
-
-abbrev pub entriesAfter : List ℕ → List ℕ → List ℕ
-entriesAfter before after =
-    part after (constraintCount before * 12 + groupCount before * 24) (constraintCount before * 12 + groupCount before * 24 + entryCount before * 8)
-
 -- how many records each section has
-abbrev pub nodesIn : List ℕ → ℕ
+abbrev pub nodesIn : Section → ℕ
 nodesIn nodes = length nodes / 8
 
-abbrev pub edgesIn : List ℕ → ℕ
+abbrev pub edgesIn : Section → ℕ
 edgesIn edges = length edges / 8
 
-abbrev pub constraintsIn : List ℕ → ℕ
+abbrev pub constraintsIn : Section → ℕ
 constraintsIn constraints = length constraints / 12
 
-abbrev pub groupsIn : List ℕ → ℕ
+abbrev pub groupsIn : Section → ℕ
 groupsIn groups = length groups / 24
 
-abbrev pub entriesIn : List ℕ → ℕ
+abbrev pub entriesIn : Section → ℕ
 entriesIn entries = length entries / 8
 
 -- a node's label and value
-abbrev pub labelAt : List ℕ → ℕ → ℕ
+abbrev pub labelAt : Section → ℕ → ℕ
 labelAt nodes v = u16At nodes (v * 8)
 
-abbrev pub valueAt : List ℕ → ℕ → ℕ
+abbrev pub valueAt : Section → ℕ → ℕ
 valueAt nodes v = u32At nodes (v * 8 + 4)
 
 -- node v: label 1 to 65,535, then a zero
-unfoldable pub nodeRight : List ℕ → ℕ → Bool
+unfoldable pub nodeRight : Section → ℕ → Bool
 nodeRight nodes v = not (eqb (labelAt nodes v) 0) && eqb (u16At nodes (v * 8 + 2)) 0
 
-unfoldable pub nodesRight : List ℕ → Bool
+unfoldable pub nodesRight : Section → Bool
 nodesRight nodes = allFrom (nodeRight nodes) 0 (nodesIn nodes)
 
 -- an edge's ends
-abbrev pub fromAt : List ℕ → ℕ → ℕ
+abbrev pub fromAt : Section → ℕ → ℕ
 fromAt edges i = u32At edges (i * 8)
 
-abbrev pub toAt : List ℕ → ℕ → ℕ
+abbrev pub toAt : Section → ℕ → ℕ
 toAt edges i = u32At edges (i * 8 + 4)
 
-abbrev pub edgeRecord : List ℕ → ℕ → Edge
-edgeRecord edges i = record { from = fromAt edges i; to = toAt edges i }
-
 -- edge i by itself: both ends below n, and different
-unfoldable pub edgeAlone : ℕ → List ℕ → ℕ → Bool
+unfoldable pub edgeAlone : ℕ → Section → ℕ → Bool
 edgeAlone n edges i = ltb (fromAt edges i) n && ltb (toAt edges i) n && not (eqb (fromAt edges i) (toAt edges i))
 
 -- edge i comes before edge j by (from, to)
-unfoldable pub edgeBefore : List ℕ → ℕ → ℕ → Bool
+unfoldable pub edgeBefore : Section → ℕ → ℕ → Bool
 edgeBefore edges i j = lessThen (fromAt edges i) (fromAt edges j) (ltb (toAt edges i) (toAt edges j))
 
 -- edge i: right by itself, and after the edge before it
-unfoldable pub edgeRight : ℕ → List ℕ → ℕ → Bool
+unfoldable pub edgeRight : ℕ → Section → ℕ → Bool
 edgeRight n edges i = edgeAlone n edges i && (eqb i 0 || edgeBefore edges (i - 1) i)
 
-unfoldable pub edgesRight : ℕ → List ℕ → Bool
+unfoldable pub edgesRight : ℕ → Section → Bool
 edgesRight n edges = allFrom (edgeRight n edges) 0 (edgesIn edges)
 
--- every node and edge record of a store keeps its rule
-unfoldable pub recordsRight : List ℕ → Bool
-recordsRight s = nodesRight (nodePart s) && edgesRight (nodeCount s) (edgePart s)
+-- every node and edge record keeps its rule
+unfoldable pub recordsRight : Section → Section → Bool
+recordsRight nodes edges = nodesRight nodes && edgesRight (nodesIn nodes) edges
 
 -- constraint c
-abbrev pub constraintAt : List ℕ → ℕ → Constraint
-constraintAt constraints c = record {
-  first = u16At constraints (c * 12);
-  second = u16At constraints (c * 12 + 2);
-  third = u16At constraints (c * 12 + 4);
-  label = u16At constraints (c * 12 + 6);
-  most = u32At constraints (c * 12 + 8);
-}
+abbrev pub constraintAt : Section → ℕ → Constraint
+constraintAt constraints c = record { first = u16At constraints (c * 12); second = u16At constraints (c * 12 + 2); third = u16At constraints (c * 12 + 4); label = u16At constraints (c * 12 + 6); most = u32At constraints (c * 12 + 8) }
 
 -- the labels of S: those that are not 0
 unfoldable pub labelsOf : Constraint → List ℕ
@@ -190,22 +190,16 @@ unfoldable pub alike : Constraint → Constraint → Bool
 alike c d = eqb (c .first) (d .first) && eqb (c .second) (d .second) && eqb (c .third) (d .third) && eqb (c .label) (d .label)
 
 -- constraint c: right by itself, and no earlier one has the same S and l
-unfoldable pub constraintRight : List ℕ → ℕ → Bool
+unfoldable pub constraintRight : Section → ℕ → Bool
 constraintRight constraints c =
     constraintAlone (constraintAt constraints c)
     && allFrom (λ d. not (alike (constraintAt constraints d) (constraintAt constraints c))) 0 c
 
-unfoldable pub constraintsRight : List ℕ → Bool
+unfoldable pub constraintsRight : Section → Bool
 constraintsRight constraints = allFrom (constraintRight constraints) 0 (constraintsIn constraints)
 
 -- the header of a store with these counts
-unfoldable pub header : ℕ → ℕ → ℕ → ℕ → ℕ → List ℕ
+unfoldable pub header : ℕ → ℕ → ℕ → ℕ → ℕ → Bytes
 header n m k g e =
     encoded
-    (1 ∷ n ∷ m ∷ k ∷ g ∷ e
-    ∷ 48 ∷ (48 + n * 8) ∷ (48 + n * 8 + m * 8) ∷ (48 + n * 8 + m * 8 + k * 12)
-    ∷ (48 + n * 8 + m * 8 + k * 12 + g * 24) ∷ (48 + n * 8 + m * 8 + k * 12 + g * 24 + e * 8) ∷ [])
-
--- the draft of a store: its own nodes, edges and constraints, with g = e = 0
-unfoldable pub draftOf : List ℕ → List ℕ
-draftOf s = header (nodeCount s) (edgeCount s) (constraintCount s) 0 0 ++ part s 48 (groupsAt s)
+    (1 ∷ n ∷ m ∷ k ∷ g ∷ e ∷ 48 ∷ edgesFrom n ∷ constraintsFrom n m ∷ groupsFrom n m k ∷ entriesFrom n m k g ∷ endFrom n m k g e ∷ [])

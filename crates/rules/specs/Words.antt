@@ -1,7 +1,20 @@
--- Little-endian words in a list of bytes.
+-- Names for lists of numbers, and the little-endian words in them.
 use Prim.Native.Nat.{ℕ, _+_, _-_, _*_, _/_, _%_}
 use mathlib.Core.List.{List, [], _∷_, _++_}
 use lib.ListN.{length, getD, take, drop}
+
+-- the bytes of a store, a draft or a pattern, those of one section, the bytes or words of a room, and node ids or numbers
+abbrev pub Bytes : Type 0
+Bytes = List ℕ
+
+abbrev pub Section : Type 0
+Section = List ℕ
+
+abbrev pub Room : Type 0
+Room = List ℕ
+
+abbrev pub Ids : Type 0
+Ids = List ℕ
 
 -- a word by its bytes, the lowest first
 abbrev pub word : ℕ → ℕ → ℕ → ℕ → ℕ

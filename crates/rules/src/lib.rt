@@ -1,5 +1,18 @@
 // The types that code and definitions share. The definitions are in specs/.
 
+// The limits of a store, and of T: mostNodes and so on in the definitions.
+pub const MOST_NODES: u32 = 65535;
+
+pub const MOST_EDGES: u32 = 262144;
+
+pub const MOST_CONSTRAINTS: u32 = 32;
+
+pub const MOST_GROUPS: u32 = 262144;
+
+pub const MOST_ENTRIES: u32 = 1048576;
+
+pub const MOST_READ: u64 = 65536;
+
 // A constraint S -> (l, N): the labels of S, with zeros after them, l, and N.
 pub struct Constraint {
     pub first: u16,

@@ -2,24 +2,26 @@
 use Prim.Native.Nat.{ℕ, _*_, _≤_, _<_}
 use native.Mathlib.Omega.{arith}
 use mathlib.Core.Path.{_≡_, refl, sym, ap, _∙_}
-use mathlib.Core.Bool.{Bool, true, false, cond}
+use mathlib.Core.Bool.{Bool, true, false, cond, not}
 use mathlib.Core.List.{List, [], _∷_, _++_, flatMap, append-nil}
 use mathlib.Core.Option.{Option, some, none}
 use lib.Dec.{leb, eqb}
 use lib.ListN.{length, getD, replicate}
 use lib.Seq.{length-take-le}
-use borrow.Author.Tests.{eqb-true, leb-true}
-use Rattle.rules.specs.Store.{headerRight, constraintsRight, nodePart, constraintPart, groupPart, entryPart}
+use borrow.Author.Tests.{eqb-true, eqb-false, leb-true}
+use Rattle.rules.specs.Store.{headerRight, nodePart, constraintPart, groupPart, entryPart}
 use Rattle.rules.specs.Pattern.{sizeOf, patternRight}
-use Rattle.rules.specs.Plan.{allCovered, bound}
+use Rattle.rules.specs.Plan.{bound}
 use Rattle.rules.specs.Listing.{Gathered, matchesOf}
 use Rattle.rules.specs.declared.Listed.{Listed}
-use Rattle.rules.specs.Answers.{Outcome, answered, refused, outcome, boundNumber, gathered, cleared, readOutcome, listRefusal, listOutcome}
+use Rattle.rules.specs.Answers.{Outcome, outcome, gathered, listOutcome}
+use Rattle.laws.specs.Outcomes.{answered, refused, cleared, readOutcome, sectionsRefusal, listRefusal, outcome-answered, outcome-refused, listing-read, listing-refused}
+use Rattle.laws.specs.Refusals.{none-first, none-given, boundNumber}
+use Rattle.laws.specs.Plannable.{bound-zero}
 use Rattle.laws.specs.PatternLaws.{RightHeader, pattern-says}
 use Rattle.list_found.specs.Reading.{listTold}
 use Rattle.io.specs.Counts.{Counts}
-use Rattle.run_text.specs.Text.{Wrote}
-use Rattle.run_text.specs.TextLaws.{wrote-then}
+use Rattle.laws.specs.Writing.{Wrote, wrote-then}
 use Rattle.run_panel.specs.Panel.{answerLine, lines, outcomeText, panelText}
 
 -- a place inside a room counts its bytes
@@ -32,7 +34,7 @@ first o = getD (o .results) 0 0
 
 -- rows that are listTold fit the room
 read-fit : (b : List ℕ) (t : ℕ) (o : Option Gathered) (work room : List ℕ) → 0 < first (readOutcome b t o work room) → first (readOutcome b t o work room) * sizeOf b ≤ length room
-unfolding readOutcome outcome answered refused
+unfolding readOutcome answered refused
 read-fit b t none work room h = absurd (omega arith)
 read-fit b t (some got) work room h = go (leb (length (matchesOf b got) * sizeOf b) (length room)) refl h
   where
@@ -40,46 +42,32 @@ read-fit b t (some got) work room h = go (leb (length (matchesOf b got) * sizeOf
     given x = outcome (cond x 0 10) (length (matchesOf b got) ∷ got .nodes ∷ got .edges ∷ t ∷ []) (flatMap (λ row. row) (matchesOf b got)) room (cleared t work)
 
     go : (x : Bool) → leb (length (matchesOf b got) * sizeOf b) (length room) ≡ x → 0 < first (given x) → first (given x) * sizeOf b ≤ length room
-    go true e h = leb-true (length (matchesOf b got) * sizeOf b) (length room) e
-    go false e h = absurd (omega arith)
+    go true e h = rw (outcome-answered (length (matchesOf b got) ∷ got .nodes ∷ got .edges ∷ t ∷ []) (flatMap (λ row. row) (matchesOf b got)) room (cleared t work)) (leb-true (length (matchesOf b got) * sizeOf b) (length room) e)
+    go false e h =
+        let k : 0 < 0 = rw (outcome-refused 10 (length (matchesOf b got) ∷ got .nodes ∷ got .edges ∷ t ∷ []) (flatMap (λ row. row) (matchesOf b got)) room (cleared t work) refl) at h in
+        absurd (omega arith)
 
--- a pattern that 3, 6, 7 and 8 are not given for is right
-bound-right : (constraints b : List ℕ) → boundNumber constraints b ≡ 0 → patternRight b ≡ true
-unfolding boundNumber
-bound-right constraints b = go (constraintsRight constraints) (patternRight b) refl
-  where
-    go : (x y : Bool) → patternRight b ≡ y
-        → _≡_ {A = ℕ} (elim x [ true ↦ elim y [ true ↦ elim (allCovered constraints b) [ true ↦ elim (leb (bound constraints b) 65536) [ true ↦ 0 | false ↦ 8 ] | false ↦ 7 ] | false ↦ 6 ] | false ↦ 3 ]) 0
-        → patternRight b ≡ true
-    go false y e h = absurd (omega arith)
-    go true false e h = absurd (omega arith)
-    go true true e h = e
-
+-- a pattern that none of 1, 3, 6, 7, 8 and 9 is given for is right
 refusal-right : (s b work : List ℕ) → listRefusal s b work ≡ 0 → patternRight b ≡ true
-unfolding listRefusal
-refusal-right s b work = go (headerRight s) (eqb (boundNumber (constraintPart s) b) 0) refl
-  where
-    go : (x y : Bool) → eqb (boundNumber (constraintPart s) b) 0 ≡ y
-        → _≡_ {A = ℕ} (elim x [ true ↦ elim y [ true ↦ elim (leb (2 * bound (constraintPart s) b) (length work)) [ true ↦ 0 | false ↦ 9 ] | false ↦ boundNumber (constraintPart s) b ] | false ↦ 1 ]) 0
-        → patternRight b ≡ true
-    go false y e h = absurd (omega arith)
-    go true true e h = bound-right (constraintPart s) b (eqb-true (boundNumber (constraintPart s) b) 0 e)
-    go true false e h = bound-right (constraintPart s) b h
+unfolding sectionsRefusal
+refusal-right s b work q =
+    let one = none-given 1 (not (headerRight s)) _ refl q in
+    bound-zero (constraintPart s) b (none-first (boundNumber (constraintPart s) b) _ (one .1) .0) .pattern
 
 -- where there are matches the pattern is right, and their rows fit the room
 pub rows-fit : (s b work room : List ℕ) → 0 < first (listOutcome s b work room) → (patternRight b ≡ true) × (first (listOutcome s b work room) * sizeOf b ≤ length room)
 unfolding listOutcome refused
 rows-fit s b work room = go (eqb (listRefusal s b work) 0) refl
   where
-    read : Outcome
-    read = readOutcome b (bound (constraintPart s) b) (gathered (nodePart s) (constraintPart s) (groupPart s) (entryPart s) b) work room
-
-    given : Bool → Outcome
-    given x = elim x [ true ↦ read | false ↦ refused (listRefusal s b work) (0 ∷ 0 ∷ 0 ∷ 0 ∷ []) room work ]
-
-    go : (x : Bool) → eqb (listRefusal s b work) 0 ≡ x → 0 < first (given x) → (patternRight b ≡ true) × (first (given x) * sizeOf b ≤ length room)
-    go true e h = (refusal-right s b work (eqb-true (listRefusal s b work) 0 e), read-fit b (bound (constraintPart s) b) (gathered (nodePart s) (constraintPart s) (groupPart s) (entryPart s) b) work room h)
-    go false e h = absurd (omega arith)
+    go : (x : Bool) → eqb (listRefusal s b work) 0 ≡ x → 0 < first (listOutcome s b work room)
+        → (patternRight b ≡ true) × (first (listOutcome s b work room) * sizeOf b ≤ length room)
+    go true e h =
+        let z = eqb-true (listRefusal s b work) 0 e in
+        let same = listing-read (headerRight s) (nodePart s) (constraintPart s) (groupPart s) (entryPart s) b work room z in
+        (refusal-right s b work z, rw same (read-fit b (bound (constraintPart s) b) (gathered (nodePart s) (constraintPart s) (groupPart s) (entryPart s) b) work room (rw same at h)))
+    go false e h =
+        let k : 0 < 0 = rw (listing-refused (headerRight s) (nodePart s) (constraintPart s) (groupPart s) (entryPart s) b work room (eqb-false (listRefusal s b work) 0 e)) at h in
+        absurd (omega arith)
 
 -- ---- what is shown
 module _ (s b work : List ℕ) (l : Listed) (room : List ℕ) (is : listTold l room work ≡ listOutcome s b (replicate 4096 0) (replicate 1024 0)) where

@@ -7,8 +7,9 @@ use mathlib.Core.Path.{_≡_, refl, ap}
 use mathlib.Core.List.{List, [], _∷_, _++_}
 use lib.ListN.{length, getD, take, drop, length-append, length-take, length-drop, drop-of-length-le}
 use lib.Seq.{drop-cons, drop-drop, take-all}
-use Rattle.run_text.specs.Text.{decimal, Wrote}
-use Rattle.run_text.specs.TextLaws.{Writing, writing-start, writing-next, writing-done, named-short, decimal-short, wrote-then}
+use Rattle.run_text.specs.Text.{decimal}
+use Rattle.laws.specs.Writing.{Wrote, Writing, writing-start, writing-next, writing-done, wrote-then}
+use Rattle.run_text.specs.TextLaws.{named-short, decimal-short}
 use Rattle.run_panel.specs.Panel.{answerText, spaced, line, lines}
 
 -- ---- the line of the answer

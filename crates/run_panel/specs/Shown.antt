@@ -4,19 +4,19 @@ use mathlib.Core.Bool.{false}
 use mathlib.Core.List.{List, [], _∷_, _++_, flatMap}
 use Prim.Native.Nat.{ℕ}
 use Rattle.rules.specs.Words.{u16At, u32At, encoded, over, signed}
-use Rattle.rules.specs.Lists.{range, allFrom, anyFrom, foldFrom, all, any, keep, has, sum, product, choices, padded, insert, sortOf, uniqAfter, uniq, setOf, halving}
+use Rattle.rules.specs.Lists.{range, allFrom, anyFrom, all, any, keep, has, sum, product, choices, padded, insert, sortOf, uniqAfter, uniq, setOf, halving}
 use Rattle.rules.specs.Store.{countsRight, offsetsRight, wordsRight, headerRight, labelsOf, labelAfter, constraintAlone, alike, constraintRight, constraintsRight, header}
 use Rattle.rules.specs.Pattern.{patternWords, patternHeader, conditionRight, patternNodeRight, patternEdgeAlone, patternEdgeBefore, patternEdgeRight, patternRight, meets, meetsBoth, patternEdge, joined}
 use Rattle.rules.specs.Plan.{rowOf, chosenOf, covered, coveredWith, waysBy, figureBy, smaller, smallest, nodeWays, allWays, figuresAfter, nodeRowsFrom, nodeRows, figuresOf, endsOf, otherEnd, endWays, edgeWays, listed, edgeRows, rowsOf, edgeCovered, allCovered, bound}
 use Rattle.rules.specs.Listing.{keyOf, precedes, equals, lowOf, foundAt, found, inside, idRight, labelRight, restRight, beyondRight, bitsRight, ruleBroken, entryList, readFound, readerOf, readKeys, entriesRead, nothing, keysFrom, candidatesOf, withNode, placeOf, bitSet, agrees, pairOf, pairsIn, withEdge, withRow, withRows, edgeAgrees, allowed, matchesFrom, hasPair, matchesOf}
-use Rattle.rules.specs.Answers.{answered, refused, outcome, boundNumber, gathered, cleared, readOutcome, listRefusal, listOutcome}
+use Rattle.rules.specs.Answers.{_when_, firstOf, answeredBoth, refusedBoth, outcomeBoth, gathered, unfit, gotOf, listNumber, workAfter, listedBy, sectionsOutcome, listOutcome}
 use Rattle.rules.specs.World.{worldNodes, worldEdges, worldConstraints, worldGroups, worldEntries, worldStore, pattern, patternA}
 use Rattle.run_text.specs.Text.{decimalIn, decimal}
 use Rattle.run_panel.specs.Panel.{answerText, spaced, line, lines, outcomeText, panelText}
 
 -- to unfold this is to unfold every definition, so that the text computes
 computes : Unit {0}
-unfolding flatMap u16At u32At encoded over signed range allFrom anyFrom foldFrom all any keep has sum product choices padded insert sortOf uniqAfter uniq setOf halving countsRight offsetsRight wordsRight headerRight labelsOf labelAfter constraintAlone alike constraintRight constraintsRight header patternWords patternHeader conditionRight patternNodeRight patternEdgeAlone patternEdgeBefore patternEdgeRight patternRight meets meetsBoth patternEdge joined rowOf chosenOf covered coveredWith waysBy figureBy smaller smallest nodeWays allWays figuresAfter nodeRowsFrom nodeRows figuresOf endsOf otherEnd endWays edgeWays listed edgeRows rowsOf edgeCovered allCovered bound keyOf precedes equals lowOf foundAt found inside idRight labelRight restRight beyondRight bitsRight ruleBroken entryList readFound readerOf readKeys entriesRead nothing keysFrom candidatesOf withNode placeOf bitSet agrees pairOf pairsIn withEdge withRow withRows edgeAgrees allowed matchesFrom hasPair matchesOf answered refused outcome boundNumber gathered cleared readOutcome listRefusal listOutcome worldNodes worldEdges worldConstraints worldGroups worldEntries worldStore pattern patternA decimalIn decimal answerText spaced line lines outcomeText panelText
+unfolding flatMap u16At u32At encoded over signed range allFrom anyFrom all any keep has sum product choices padded insert sortOf uniqAfter uniq setOf halving countsRight offsetsRight wordsRight headerRight labelsOf labelAfter constraintAlone alike constraintRight constraintsRight header patternWords patternHeader conditionRight patternNodeRight patternEdgeAlone patternEdgeBefore patternEdgeRight patternRight meets meetsBoth patternEdge joined rowOf chosenOf covered coveredWith waysBy figureBy smaller smallest nodeWays allWays figuresAfter nodeRowsFrom nodeRows figuresOf endsOf otherEnd endWays edgeWays listed edgeRows rowsOf edgeCovered allCovered bound keyOf precedes equals lowOf foundAt found inside idRight labelRight restRight beyondRight bitsRight ruleBroken entryList readFound readerOf readKeys entriesRead nothing keysFrom candidatesOf withNode placeOf bitSet agrees pairOf pairsIn withEdge withRow withRows edgeAgrees allowed matchesFrom hasPair matchesOf _when_ firstOf answeredBoth refusedBoth outcomeBoth gathered unfit gotOf listNumber workAfter listedBy sectionsOutcome listOutcome worldNodes worldEdges worldConstraints worldGroups worldEntries worldStore pattern patternA decimalIn decimal answerText spaced line lines outcomeText panelText
 computes = tt
 
 -- "answer 0 matches 1 nodes 5 edges 3 bound 38" and "1 3 5 4", each with its line's end

@@ -3,7 +3,7 @@ ghost use Prim.Native.Nat.{_+_, _*_, _≤_};
 ghost use mathlib.Core.Path.{_≡_};
 ghost use lib.ListN.{length};
 ghost use Rattle.io.specs.Counts.{Counts};
-ghost use Rattle.run_text.specs.Text.{Wrote};
+ghost use Rattle.laws.specs.Writing.{Wrote};
 ghost use Rattle.run_panel.specs.Panel.{answerLine, spaced, line, lines, panelText};
 use rules::Listed;
 

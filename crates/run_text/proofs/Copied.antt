@@ -7,7 +7,7 @@ use mathlib.Core.List.{List}
 use lib.ListN.{length, getD, set, length-set}
 use lib.Seq.{paste, paste-zero, paste-suc, take-all}
 use Rattle.rules.specs.Words.{over}
-use Rattle.run_text.specs.Text.{Wrote}
+use Rattle.laws.specs.Writing.{Wrote}
 
 -- the first i bytes are copied
 pub record Copied (before : List ℕ) (at : ℕ) (bytes out : List ℕ) (i : ℕ) : Type 0 where

@@ -3,16 +3,14 @@ use Prim.Native.Nat.{ℕ, zero, suc, _+_, _-_, _/_, _%_, _^_, _≤_, _<_}
 use native.Mathlib.Omega.{arith}
 use native.Mathlib.Nat.{pow-suc, one-le-pow, pow-le-pow-right}
 use native.Mathlib.Decide.{decLe}
-use mathlib.Core.Path.{_≡_, refl, sym, _∙_}
+use mathlib.Core.Path.{_≡_}
 use mathlib.Core.Bool.{Bool, true, false}
 use mathlib.Core.List.{List, [], _∷_, _++_}
 use lib.Dec.{ltb}
 use lib.ListN.{length, length-append}
 use borrow.Author.Tests.{lt-ltb, le-ltb}
 use Rattle.io.specs.Digits.{digits, glyph, Fewest}
-use Rattle.rules.specs.Words.{over}
-use Rattle.laws.specs.Over.{over-nil, over-over}
-use Rattle.run_text.specs.Text.{decimalIn, decimal, Wrote}
+use Rattle.run_text.specs.Text.{decimalIn, decimal}
 
 -- ---- numbers
 -- as many digits as are allowed, or fewer
@@ -73,35 +71,3 @@ fewest-decimal r n h f = fewest-in r 20 n (fewest-few r n h f) f
 -- a name and a number
 pub named-short : (name : List ℕ) (n : ℕ) → length (name ++ decimal n) ≤ length name + 20
 named-short name n = omega (arith, length-append name (decimal n), decimal-short n)
-
--- one text after the other is the two together
-module _ (before : List ℕ) (at : ℕ) (a : List ℕ) (middle : List ℕ) (there : ℕ) (first : Wrote before at a middle there) (fits : there ≤ length before) where
-  pub wrote-then : (b after : List ℕ) (past : ℕ) → Wrote middle there b after past → Wrote before at (a ++ b) after past
-  wrote-then b after past next =
-      record {
-        room = next .room ∙ rw (first .room, first .place, over-over before at a (omega (arith, first .place)) b);
-        size = next .size ∙ first .size;
-        place = omega (arith, length-append a b, next .place, first .place);
-      }
-
--- what is still to be written decides the whole: the room and the place once all of it is there
-pub record Writing (before : List ℕ) (at : ℕ) (text : List ℕ) (left out : List ℕ) (here : ℕ) : Type 0 where
-  pub whole : over out here left ≡ over before at text
-  pub size : length out ≡ length before
-  pub place : here + length left ≡ at + length text
-
-pub writing-start : (before : List ℕ) (at : ℕ) (text : List ℕ) → Writing before at text text before at
-writing-start before at text = record { whole = refl; size = refl; place = refl }
-
-module _ {before : List ℕ} {at : ℕ} {text : List ℕ} where
-  pub writing-next : {a rest out : List ℕ} {here : ℕ} → Writing before at text (a ++ rest) out here → here + length a ≤ length out → {after : List ℕ} {past : ℕ} → Wrote out here a after past → Writing before at text rest after past
-  writing-next {a} {rest} {out} {here} w fits next =
-      record {
-        whole = rw (next .room, next .place, over-over out here a fits rest) (w .whole);
-        size = next .size ∙ w .size;
-        place = omega (arith, length-append a rest, next .place, w .place);
-      }
-
-  pub writing-done : {out : List ℕ} {here : ℕ} → Writing before at text [] out here → Wrote before at text out here
-  writing-done {out} {here} w =
-      record { room = sym (over-nil out here) ∙ w .whole; size = w .size; place = omega (arith, w .place) }

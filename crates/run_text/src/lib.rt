@@ -2,7 +2,8 @@
 ghost use Prim.Native.Nat.{_+_, _≤_};
 ghost use mathlib.Core.List.{_++_};
 ghost use lib.ListN.{length};
-ghost use Rattle.run_text.specs.Text.{decimal, Wrote};
+ghost use Rattle.run_text.specs.Text.{decimal};
+ghost use Rattle.laws.specs.Writing.{Wrote};
 
 // Writes bytes from a place on, and answers the place past them.
 pub fn put(out: &mut [u8], at: usize, bytes: &[u8]) -> usize

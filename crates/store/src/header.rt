@@ -30,11 +30,11 @@ fn counts_right(s: &[u8]) -> bool
     requires { ⌜ 48 ≤ length (now s) ⌝ }
     ensures { λ r. ⌜ r ≡ countsRight (now (s .entry)) ⌝ }
 {
-    (node_count(s) <= 65535)
-        & (edge_count(s) <= 262144)
-        & (constraint_count(s) <= 32)
-        & (group_count(s) <= 262144)
-        & (entry_count(s) <= 1048576)
+    (node_count(s) <= rules::MOST_NODES)
+        & (edge_count(s) <= rules::MOST_EDGES)
+        & (constraint_count(s) <= rules::MOST_CONSTRAINTS)
+        & (group_count(s) <= rules::MOST_GROUPS)
+        & (entry_count(s) <= rules::MOST_ENTRIES)
 }
 
 // Whether the five offsets and the total are the ones that the counts force.

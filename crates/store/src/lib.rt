@@ -17,8 +17,6 @@ pub use store_records::entry_at;
 pub use store_records::label_at;
 pub use store_records::nodes_right;
 pub use store_records::value_at;
-pub use store_sections::after_edges;
-pub use store_sections::before_edges;
 pub use store_sections::constraint_count;
 pub use store_sections::constraint_part;
 pub use store_sections::constraints_after;

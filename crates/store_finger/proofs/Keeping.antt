@@ -9,7 +9,7 @@ use Prim.Native.Nat.{ℕ, _+_, _-_, _*_, _≤_, _<_}
 use lib.ListN.{length, drop, getD, set, length-set}
 use lib.Seq.{getD-set-same, getD-set-other, sets-eq}
 use borrow.Author.Tests.{eq-eqb, ne-eqb}
-use Rattle.rules.specs.Store.{groupsIn}
+use Rattle.rules.specs.Store.{mostGroups, groupsIn}
 use Rattle.rules.specs.Listing.{lowOf, foundAt, found}
 use Rattle.rules.specs.declared.Key.{Key}
 use Rattle.rules.specs.declared.Found.{Found}
@@ -90,7 +90,7 @@ module _ {groups : List ℕ} {key : Key} {path : List ℕ} {n : ℕ} where
   pub steps-later : {k : Key} → Steps groups key path n → keyLess k key ≡ false → Steps groups k path n
   steps-later s h = record { step = λ i k. reach-later groups (s .step i k) h }
 
-  pub kept-going : groupsIn groups ≤ 262144 → Kept groups key path n → PathGoing groups key (startAt groups path n)
+  pub kept-going : groupsIn groups ≤ mostGroups → Kept groups key path n → PathGoing groups key (startAt groups path n)
   kept-going h k = go (decLe n 0)
     where
       go : Dec (n ≤ 0) → PathGoing groups key (startAt groups path n)
@@ -176,7 +176,7 @@ pub kept-steps : {groups path : List ℕ} (key k : Key) (r : Bool) → Path grou
     → Steps groups key path (getD path 0 0)
 kept-steps key k r p e q h = steps-later (p .steps) (ap (keyLess key) (sym e) ∙ sym q ∙ h)
 
-pub started : {groups : List ℕ} {key : Key} {path : List ℕ} {n : ℕ} (at : Span) → groupsIn groups ≤ 262144 → Kept groups key path n
+pub started : {groups : List ℕ} {key : Key} {path : List ℕ} {n : ℕ} (at : Span) → groupsIn groups ≤ mostGroups → Kept groups key path n
     → at ≡ startAt groups path n → PathGoing groups key at
 started at h k e = rw e (kept-going h k)
 

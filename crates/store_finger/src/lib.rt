@@ -8,7 +8,7 @@ use store_lookup::less_then;
 ghost use mathlib.Core.Path.{_≡_};
 ghost use Prim.Native.Nat.{_+_, _*_, _≤_, _<_};
 ghost use lib.ListN.{length};
-ghost use Rattle.rules.specs.Store.{groupsIn};
+ghost use Rattle.rules.specs.Store.{mostGroups, groupsIn};
 ghost use Rattle.rules.specs.Listing.{lowOf, found};
 ghost use Rattle.store_finger.specs.Order.{keyLess, groupKey, passes, lowerGroup};
 ghost use Rattle.store_finger.specs.Path.{PathGoing, Steps, Path, Fresh, keyIn, startAt, putStep, putHead, Stepped, Pushed, Kept, Ended};
@@ -74,7 +74,7 @@ fn lower_group(groups: &[u8], m: u32, i: u32) -> u32
 
 // One step of the search.
 fn step(groups: &[u8], key: Key, at: Span) -> Span
-    requires { ⌜ PathGoing (now groups) key at × (at .low < at .high) × (groupsIn (now groups) ≤ 262144) ⌝ }
+    requires { ⌜ PathGoing (now groups) key at × (at .low < at .high) × (groupsIn (now groups) ≤ mostGroups) ⌝ }
     ensures { λ r. ⌜ Stepped (now (groups .entry)) key at r ⌝ }
 {
     let middle = (at.low + at.high) / 2;
@@ -116,7 +116,7 @@ fn push(path: &mut [u32], n: usize, at: Span) -> usize
 
 // Goes on from where the search stands, with n steps kept.
 fn descend(groups: &[u8], key: Key, path: &mut [u32], kept: usize, start: Span) -> End
-    requires { ⌜ PathGoing (now groups) key start × Steps (now groups) key (now path) kept × (kept ≤ 30) × (128 ≤ length (now path)) × (groupsIn (now groups) ≤ 262144) ⌝ }
+    requires { ⌜ PathGoing (now groups) key start × Steps (now groups) key (now path) kept × (kept ≤ 30) × (128 ≤ length (now path)) × (groupsIn (now groups) ≤ mostGroups) ⌝ }
     ensures { λ r. ⌜ Ended (now (groups .entry)) key (now (path .entry)) (now (path .exit)) r ⌝ }
 {
     let mut at = start;
@@ -133,7 +133,7 @@ fn descend(groups: &[u8], key: Key, path: &mut [u32], kept: usize, start: Span) 
 
 // Where the search stands after n of the steps that are kept.
 fn start_at(groups: &[u8], path: &[u32], n: usize) -> Span
-    requires { ⌜ (n ≤ 30) × (128 ≤ length (now path)) × (groupsIn (now groups) ≤ 262144) ⌝ }
+    requires { ⌜ (n ≤ 30) × (128 ≤ length (now path)) × (groupsIn (now groups) ≤ mostGroups) ⌝ }
     ensures { λ r. ⌜ r ≡ startAt (now (groups .entry)) (now (path .entry)) n ⌝ }
 {
     if n == 0 {
@@ -203,7 +203,7 @@ fn put_head(path: &mut [u32], key: Key, count: usize)
 
 // The group that the search for the key ends at.
 fn lowest_from(groups: &[u8], key: Key, path: &mut [u32]) -> usize
-    requires { ⌜ Path (now groups) (now path) × (groupsIn (now groups) ≤ 262144) ⌝ }
+    requires { ⌜ Path (now groups) (now path) × (groupsIn (now groups) ≤ mostGroups) ⌝ }
     ensures { λ r. ⌜ (r ≡ lowOf (now (groups .entry)) key) × Path (now (groups .entry)) (now (path .exit)) × (length (now (path .exit)) ≡ length (now (path .entry))) ⌝ }
 {
     let kept = kept_for(groups, key, path);

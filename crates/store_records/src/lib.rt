@@ -8,9 +8,8 @@ ghost use Prim.Native.Nat.{_+_, _*_, _≤_};
 ghost use lib.ListN.{length};
 ghost use Rattle.rules.specs.Lists.{allFrom};
 ghost use Rattle.rules.specs.Listing.{entryAt};
-ghost use Rattle.rules.specs.Store.{labelAt, valueAt, nodeRight, nodesRight};
-ghost use Rattle.rules.specs.Store.{fromAt, toAt, edgeRecord, edgeAlone, edgeBefore, edgeRight, edgesRight};
-ghost use Rattle.rules.specs.Store.{constraintAt, labelAfter, constraintAlone, alike, constraintRight, constraintsRight};
+ghost use Rattle.rules.specs.Store.{labelAt, valueAt, nodeRight, nodesRight, fromAt, toAt, edgeAlone, edgeBefore, edgeRight, edgesRight, constraintAt, labelAfter, constraintAlone, alike, constraintRight, constraintsRight};
+ghost use Rattle.laws.specs.Parts.{edgeRecord};
 
 // The label of node v.
 pub fn label_at(nodes: &[u8], v: usize) -> u16

@@ -1,11 +1,9 @@
-// The counts and offsets of a store, its sections, and the parts before and after its edges: all lent on, none copied.
+// The counts and offsets of a store, and its sections, found in the whole or in the parts before and after its edges: all lent on, none copied.
 ghost use mathlib.Core.Path.{_≡_};
 ghost use Prim.Native.Nat.{_+_, _*_, _≤_, _<_};
 ghost use lib.ListN.{length};
-ghost use Rattle.rules.specs.Store.{nodeCount, edgeCount, constraintCount, groupCount, entryCount};
-ghost use Rattle.rules.specs.Store.{edgesAt, constraintsAt, groupsAt, entriesAt, endAt};
-ghost use Rattle.rules.specs.Store.{nodePart, edgePart, constraintPart, groupPart, entryPart, beforeEdges, afterEdges};
-ghost use Rattle.rules.specs.Store.{nodesBefore, constraintsAfter, groupsAfter, entriesAfter};
+ghost use Rattle.rules.specs.Store.{nodeCount, edgeCount, constraintCount, groupCount, entryCount, edgesAt, constraintsAt, groupsAt, entriesAt, endAt, nodePart, edgePart, constraintPart, groupPart, entryPart};
+ghost use Rattle.laws.specs.Parts.{nodesBefore, constraintsAfter, groupsAfter, entriesAfter};
 
 // How many nodes the header counts.
 pub fn node_count(s: &[u8]) -> u32
@@ -132,25 +130,6 @@ pub fn entry_part(s: &[u8]) -> &[u8]
     ensures { λ r. ⌜ now r ≡ entryPart (now (s .entry)) ⌝ }
 {
     let start = entries_at(s);
-    let end = end_at(s);
-    &s[start..end]
-}
-
-// What stands before the edges of a store: its header and its nodes.
-pub fn before_edges(s: &[u8]) -> &[u8]
-    requires { ⌜ edgesAt (now s) ≤ length (now s) ⌝ }
-    ensures { λ r. ⌜ now r ≡ beforeEdges (now (s .entry)) ⌝ }
-{
-    let end = edges_at(s);
-    &s[0..end]
-}
-
-// What stands after the edges of a store: its constraints, groups and entries.
-pub fn after_edges(s: &[u8]) -> &[u8]
-    requires { ⌜ endAt (now s) ≤ length (now s) ⌝ }
-    ensures { λ r. ⌜ now r ≡ afterEdges (now (s .entry)) ⌝ }
-{
-    let start = constraints_at(s);
     let end = end_at(s);
     &s[start..end]
 }

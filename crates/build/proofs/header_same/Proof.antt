@@ -2,9 +2,10 @@
 use borrow.Author.Needs.{needs}
 use native.Mathlib.Omega.{arith}
 use lib.ListN.{length-take}
-use Rattle.build.proofs.Admitted.{compared-left, length-header}
+use Rattle.build.proofs.Admitted.{compared-left}
 use Rattle.build.proofs.header_same.Statement.{statement}
 use Rattle.build.proofs.header_same.Tie as tie
+use Rattle.laws.specs.Sections.{header-length}
 
 slice-aggregate-put-header : tie.Need-slice-aggregate-put-header
 slice-aggregate-put-header c = search needs
@@ -24,7 +25,7 @@ bytes-same-requires : tie.Need-bytes-same-requires
 bytes-same-requires c κs = search needs
 
 returns : tie.Need-returns
-returns c = compared-left _ _ _ _ _ (c .bytes-same .ensures) (c .before .before .before .before .put-header .ensures) (rw length-header (omega arith))
+returns c = compared-left _ _ _ _ _ (c .bytes-same .ensures) (c .before .before .before .before .put-header .ensures) (rw header-length (omega arith))
 
 pub header-same-spec : {M : Type 1} → statement M
 header-same-spec =

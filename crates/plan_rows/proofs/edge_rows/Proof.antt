@@ -6,6 +6,7 @@ use Rattle.plan_rows.proofs.Going.{way-found, way-missing}
 use Rattle.plan_rows.proofs.Edges.{EdgesGoing, edges-start, edges-next, edges-skip, edges-above, edges-done}
 use Rattle.plan_rows.proofs.edge_rows.Statement.{statement}
 use Rattle.plan_rows.proofs.edge_rows.Tie as tie
+use Rattle.laws.specs.Constraints.{alone-of}
 
 abbrev Inv-loop : tie.InvT-loop
 Inv-loop constraints b t rows₀ q figures count₀ sum₀ j₀ rows count sum j = EdgesGoing constraints b figures rows₀ rows count₀ sum₀ count sum j
@@ -53,6 +54,6 @@ returns-2 c = edges-done (c .before .before .loop .inv) (c .before .before .befo
 pub edge-rows-spec : {M : Type 1} → statement M
 edge-rows-spec =
     tie.close
-    (tie.spec Inv-loop μ-loop (λ c κs. search needs) loop-holds (λ c κs. search needs) (λ c. search needs) (λ c κs. search needs) (λ c. search needs) returns
+    (tie.spec Inv-loop μ-loop (λ c κs. search needs) loop-holds (λ c κs. search (alone-of, needs)) (λ c. search needs) (λ c κs. search needs) (λ c. search needs) returns
     (λ c. search needs) (λ c κs. search needs) add-sum add-count (λ c. search needs) loop-again (λ c. search needs) loop-again-2
     (λ c κs. search needs) (λ c. search needs) returns-2)

@@ -4,6 +4,7 @@ use borrow.Author.Tests.{not-true, not-false}
 use Prim.Native.Nat.{_-_}
 use native.Mathlib.Omega.{arith}
 use Rattle.laws.specs.Covering.{next-says}
+use Rattle.laws.specs.Constraints.{alone-of}
 use Rattle.plan_rows.proofs.Going.{way-found, way-missing}
 use Rattle.plan_rows.proofs.Nodes.{NodesGoing, nodes-start, nodes-next, nodes-above, nodes-stop, nodes-end}
 use Rattle.plan_rows.proofs.node_rows.Statement.{statement}
@@ -55,6 +56,6 @@ returns-3 c = nodes-end (c .before .before .loop .inv) (c .before .before .befor
 pub node-rows-spec : {M : Type 1} → statement M
 node-rows-spec =
     tie.close
-    (tie.spec Inv-loop μ-loop (λ c κs. search needs) loop-holds (λ c κs. search needs) (λ c κs. search needs) (λ c. search needs) returns (λ c κs. search needs) (λ c. search needs) returns-2
+    (tie.spec Inv-loop μ-loop (λ c κs. search needs) loop-holds (λ c κs. search (alone-of, needs)) (λ c κs. search needs) (λ c. search needs) returns (λ c κs. search needs) (λ c. search needs) returns-2
     (λ c. search needs) (λ c κs. search needs) (λ c. search needs) (λ c. search needs) (λ c. search needs) array-write-figures add-sum
     (λ c. search needs) (λ c. search needs) loop-again (λ c κs. search needs) (λ c. search needs) returns-3)

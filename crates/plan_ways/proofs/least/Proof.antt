@@ -7,7 +7,7 @@ use borrow.Author.Needs.{needs}
 use Rattle.rules.specs.Pattern.{sizeOf}
 use Rattle.rules.specs.Plan.{figureOf, coveredWith}
 use Rattle.laws.specs.Smallest.{BestLeft, best-done}
-use Rattle.laws.specs.Choices.{nodeOnly, least}
+use Rattle.laws.specs.Least.{nodeOnly, least}
 use Rattle.plan_ways.specs.Ways.{wayIn, suited}
 use Rattle.plan_ways.proofs.Choosing.{best-step, least-start}
 use Rattle.plan_ways.proofs.least.Statement.{statement}

@@ -1,7 +1,8 @@
 -- `run_text::put_named` meets its contract. Assumes nothing.
 use borrow.Author.Needs.{needs}
 use native.Mathlib.Omega.{arith}
-use Rattle.run_text.specs.TextLaws.{named-short, wrote-then}
+use Rattle.run_text.specs.TextLaws.{named-short}
+use Rattle.laws.specs.Writing.{wrote-then}
 use Rattle.run_text.proofs.put_named.Statement.{statement}
 use Rattle.run_text.proofs.put_named.Tie as tie
 

@@ -5,7 +5,7 @@ use mathlib.Core.Path.{_≡_, refl}
 use Prim.Native.Nat.{_+_, _-_, _≤_, _<_}
 use lib.ListN.{length, length-set}
 use lib.Seq.{paste, paste-zero}
-use Rattle.build.proofs.Built.{byte-next, bytes-done}
+use Rattle.laws.specs.Over.{paste-next, paste-done}
 use Rattle.build.proofs.write.put_bytes.Statement.{statement}
 use Rattle.build.proofs.write.put_bytes.Tie as tie
 
@@ -40,7 +40,7 @@ loop-again c =
     let inv = head .loop .inv in
     let g : a .at + head .loop .i < length (a .room .now) = omega arith in
     let h : head .loop .i < length (a .bytes .now) = omega arith in
-    (omega arith, simp length-set (inv .1), byte-next _ _ _ _ _ (inv .2) g h)
+    (omega arith, simp length-set (inv .1), paste-next _ _ _ _ _ (inv .2) g h)
 
 same-length : tie.Need-same-length Inv-loop μ-loop
 same-length c = c .before .loop .inv .1
@@ -48,7 +48,7 @@ same-length c = c .before .loop .inv .1
 returns : tie.Need-returns Inv-loop μ-loop
 returns c =
     let e : c .before .loop .i ≡ length (c .before .before .args .bytes .now) = omega arith in
-    bytes-done _ _ _ _ _ (c .before .loop .inv .2) e
+    paste-done _ _ _ _ _ (c .before .loop .inv .2) e
 
 pub put-bytes-spec : {M : Type 1} → statement M
 put-bytes-spec =

@@ -10,7 +10,7 @@ use Rattle.rules.specs.Store.{nodesIn}
 use Rattle.rules.specs.Lists.{range}
 use Rattle.build_edges.specs.Packed.{hasLabel, labelledIn}
 use Rattle.build_edges.proofs.Kept.{Kept, begun, taken, skipped, ended}
-use Rattle.build_edges.proofs.Ranges.{range-next, range-none, length-range}
+use Rattle.laws.specs.Range.{range-next, range-none, length-range}
 use Rattle.build_edges.proofs.adjacency.labelled.Statement.{statement}
 use Rattle.build_edges.proofs.adjacency.labelled.Tie as tie
 

@@ -7,7 +7,8 @@ use Prim.Native.Nat.{_+_, _-_, _≤_}
 use lib.ListN.{length, take, drop, length-set, length-map, drop-of-length-le}
 use Rattle.rules.specs.Lists.{keep}
 use Rattle.laws.specs.Slices.{drop-next}
-use Rattle.build_edges.specs.Near.{lows, isLabelled}
+use Rattle.laws.specs.Lows.{lows}
+use Rattle.build_edges.specs.Near.{isLabelled}
 use Rattle.build_edges.proofs.Kept.{Kept, taken, skipped, ended}
 use Rattle.build_edges.proofs.near.add_near.Statement.{statement}
 use Rattle.build_edges.proofs.near.add_near.Tie as tie

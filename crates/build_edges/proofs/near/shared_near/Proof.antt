@@ -7,7 +7,7 @@ use lib.ListN.{length, drop, length-set, length-map, drop-of-length-le}
 use Rattle.rules.specs.Lists.{keep}
 use Rattle.laws.specs.Slices.{drop-next}
 use Rattle.laws.specs.Searching.{standsIn}
-use Rattle.build_edges.specs.Near.{lows}
+use Rattle.laws.specs.Lows.{lows}
 use Rattle.build_edges.proofs.Kept.{Kept, begun, taken, skipped, ended}
 use Rattle.build_edges.proofs.near.shared_near.Statement.{statement}
 use Rattle.build_edges.proofs.near.shared_near.Tie as tie

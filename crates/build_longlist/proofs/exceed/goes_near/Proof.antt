@@ -8,7 +8,7 @@ use Rattle.rules.specs.Lists.{all, keep}
 use Rattle.laws.specs.Slices.{drop-next}
 use Rattle.laws.specs.Searching.{standsIn}
 use Rattle.build_edges.specs.Packed.{wordIn}
-use Rattle.build_edges.specs.Near.{lows}
+use Rattle.laws.specs.Lows.{lows}
 use Rattle.build_longlist.proofs.Exceeding.{Within, within-skip, within-next, within-stop, within-done}
 use Rattle.build_longlist.proofs.exceed.goes_near.Statement.{statement}
 use Rattle.build_longlist.proofs.exceed.goes_near.Tie as tie

@@ -5,7 +5,7 @@ use mathlib.Core.Path.{_≡_, refl}
 use Prim.Native.Nat.{_-_, _%_, _≤_}
 use lib.ListN.{length, drop, length-set, drop-of-length-le}
 use Rattle.laws.specs.Slices.{drop-next}
-use Rattle.build_edges.specs.Near.{lows}
+use Rattle.laws.specs.Lows.{lows}
 use Rattle.build_neighbours.proofs.Pairing.{Mapped, put, written}
 use Rattle.build_neighbours.proofs.pairs.put_lows.Statement.{statement}
 use Rattle.build_neighbours.proofs.pairs.put_lows.Tie as tie

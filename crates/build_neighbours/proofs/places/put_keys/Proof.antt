@@ -3,7 +3,7 @@ use borrow.Author.Needs.{needs}
 use native.Mathlib.Omega.{arith}
 use Prim.Native.Nat.{_-_}
 use lib.ListN.{length}
-use Rattle.laws.specs.PartMembers.{has-get}
+use Rattle.laws.specs.Has.{has-get}
 use Rattle.build_neighbours.specs.Arrange.{keyOf}
 use Rattle.build_neighbours.proofs.Arranging.{Mapped, begun, mapped, all-mapped}
 use Rattle.build_neighbours.proofs.places.put_keys.Statement.{statement}

@@ -7,7 +7,7 @@ use lib.ListN.{length, drop, length-set, length-map, drop-of-length-le}
 use Rattle.rules.specs.Lists.{keep, setOf}
 use Rattle.laws.specs.Slices.{drop-next}
 use Rattle.build_edges.specs.Packed.{wordIn, labelledIn}
-use Rattle.build_edges.specs.Near.{lows}
+use Rattle.laws.specs.Lows.{lows}
 use Rattle.build_neighbours.specs.Useful.{reaches}
 use Rattle.build_neighbours.specs.Left.{labelsIn}
 use Rattle.build_edges.proofs.Kept.{Kept, begun, taken, skipped, ended}

@@ -1,6 +1,6 @@
 -- The order of keys, and where a key stands in the index of a graph: the groups of smaller keys come before it, those of greater ones after it. Assumes nothing.
-use mathlib.Core.Path.{_≡_, refl, sym, ap, ap₂, _∙_}
-use mathlib.Core.Bool.{Bool, true, false, cond, not, _&&_, _||_, false≢true, true≢false}
+use mathlib.Core.Path.{_≡_, refl, sym, ap, _∙_}
+use mathlib.Core.Bool.{Bool, true, false, not, false≢true, true≢false}
 use mathlib.Core.List.{List, [], _∷_, _++_, map, flatMap, append-assoc, map-append}
 use Prim.Native.Nat.{ℕ, zero, suc, min, _+_, _≤_, _<_}
 use native.Mathlib.Decide.{decLe, ℕ-discrete}
@@ -8,49 +8,18 @@ use native.Mathlib.Omega.{arith}
 use lib.Dec.{ltb, eqb}
 use lib.ListN.{length, getD, take}
 use borrow.Author.Tests.{eq-eqb, ne-eqb, lt-ltb, le-ltb, ltb-true}
-use Rattle.rules.specs.Lists.{range, all, has, keep, choices, padded, lessThen, From}
+use Rattle.rules.specs.Lists.{range, all, has, keep, choices, padded, lessThen}
+use Rattle.laws.specs.Strict.{From, below, from-above}
 use Rattle.rules.specs.Store.{constraintsIn, constraintAt, labelsOf}
 use Rattle.rules.specs.Graph.{Graph, labelled}
 use Rattle.rules.specs.Index.{Group, noId, keysOf, entriesOf, groupsOf, indexOf}
 use Rattle.rules.specs.declared.Constraint.{Constraint}
-use Rattle.laws.specs.Cases.{and-yes, first-holds, second-holds}
-use Rattle.laws.specs.Sets.{below}
-use Rattle.laws.specs.Keeping.{all-append, all-map, keep-most}
-use Rattle.laws.specs.Chosen.{keep-append}
-use Rattle.demands.specs.Faithful.{IsKey}
-use Rattle.demands.specs.KeyLists.{range-from, range-has, labelled-has, labelled-strict}
-
--- ---- what holds of every element, after mapping, keeping and joining
-module _ {A B : Type 0} (p : A → Bool) (q : B → Bool) where
-  pub all-map-by : (f : A → B) (xs : List A) → ((x : A) → p x ≡ true → q (f x) ≡ true) → all p xs ≡ true → all q (map f xs) ≡ true
-  unfolding all
-  all-map-by f [] h a = refl
-  all-map-by f (x ∷ xs) h a =
-      and-yes (q (f x)) (all q (map f xs)) (h x (first-holds (p x) (all p xs) a)) (all-map-by f xs h (second-holds (p x) (all p xs) a))
-
-  pub all-flat-by : (f : A → List B) (xs : List A) → ((x : A) → p x ≡ true → all q (f x) ≡ true) → all p xs ≡ true → all q (flatMap f xs) ≡ true
-  unfolding all flatMap
-  all-flat-by f [] h a = refl
-  all-flat-by f (x ∷ xs) h a =
-      all-append q (f x) (flatMap f xs)
-      ∙ and-yes (all q (f x)) (all q (flatMap f xs)) (h x (first-holds (p x) (all p xs) a)) (all-flat-by f xs h (second-holds (p x) (all p xs) a))
-
-pub all-kept : {A : Type 0} (p q : A → Bool) (xs : List A) → all q xs ≡ true → all q (keep p xs) ≡ true
-unfolding all keep
-all-kept p q [] a = refl
-all-kept p q (x ∷ xs) a = go (p x) (first-holds (q x) (all q xs) a) (all-kept p q xs (second-holds (q x) (all q xs) a))
-  where
-    go : (t : Bool) → q x ≡ true → all q (keep p xs) ≡ true → all q (cond t (x ∷ []) [] ++ keep p xs) ≡ true
-    go true e ih = and-yes (q x) (all q (keep p xs)) e ih
-    go false e ih = ih
-
-pub all-joined : {A : Type 0} (p : A → Bool) (xs ys : List A) → all p xs ≡ true → all p ys ≡ true → all p (xs ++ ys) ≡ true
-all-joined p xs ys a b = all-append p xs ys ∙ and-yes (all p xs) (all p ys) a b
-
-pub flat-append : {A B : Type 0} (f : A → List B) (xs ys : List A) → flatMap f (xs ++ ys) ≡ flatMap f xs ++ flatMap f ys
-unfolding flatMap
-flat-append f [] ys = refl
-flat-append f (x ∷ xs) ys = ap (λ l. f x ++ l) (flat-append f xs ys) ∙ sym (append-assoc (f x) (flatMap f xs) (flatMap f ys))
+use Rattle.laws.specs.Cases.{and-yes}
+use Rattle.laws.specs.All.{all-map, all-flat-by, all-kept, all-map-by, all-appended}
+use Rattle.laws.specs.Keep.{keep-append}
+use Rattle.laws.specs.KeyLists.{IsKey, labelled-has, labelled-strict, labels-few}
+use Rattle.laws.specs.Range.{range-from, has-range}
+use Rattle.laws.specs.Map.{flat-append}
 
 -- ---- the order of two runs of words: at the first place where they differ, the word of the first is smaller
 unfoldable pub ahead : List ℕ → List ℕ → Bool
@@ -113,13 +82,6 @@ pub record Cut {A : Type 0} (less : A → A → Bool) (x : A) (l : List A) : Typ
   pub lower : all (λ y. less y x) before ≡ true
   pub upper : all (λ y. less x y) after ≡ true
 
-from-above : (v n : ℕ) (l : List ℕ) → v < n → From n l → all (λ y. ltb v y) l ≡ true
-unfolding From all
-from-above v n [] h f = refl
-from-above v n (y ∷ l) h f =
-    let k = f .0 in
-    and-yes (ltb v y) (all (λ y. ltb v y) l) (lt-ltb v y (omega arith)) (from-above v (suc y) l (omega arith) (f .1))
-
 cut-strict : (n v : ℕ) (l : List ℕ) → From n l → has v l ≡ true → Cut ltb v l
 unfolding From has all
 cut-strict n v [] f h = absurd (false≢true h)
@@ -152,11 +114,11 @@ cut-more keys xs u ids a b =
       after = map (λ k. u ∷ k) (b .after) ++ flatMap with (a .after);
       whole = whole;
       lower =
-          all-joined (λ k. ahead k (u ∷ ids)) (flatMap with (a .before)) (map (λ k. u ∷ k) (b .before))
+          all-appended (λ k. ahead k (u ∷ ids)) (flatMap with (a .before)) (map (λ k. u ∷ k) (b .before))
           (all-flat-by (λ y. ltb y u) (λ k. ahead k (u ∷ ids)) with (a .before) (λ y h. all-map (λ k. ahead k (u ∷ ids)) (λ k. y ∷ k) keys (λ k. unfold ahead in less-yes y u (ahead k ids) (ltb-true y u h))) (a .lower))
           (all-map-by (λ k. ahead k ids) (λ k. ahead k (u ∷ ids)) (λ k. u ∷ k) (b .before) (λ k h. unfold ahead in (less-same u u (ahead k ids) refl ∙ h)) (b .lower));
       upper =
-          all-joined (ahead (u ∷ ids)) (map (λ k. u ∷ k) (b .after)) (flatMap with (a .after))
+          all-appended (ahead (u ∷ ids)) (map (λ k. u ∷ k) (b .after)) (flatMap with (a .after))
           (all-map-by (ahead ids) (ahead (u ∷ ids)) (λ k. u ∷ k) (b .after) (λ k h. unfold ahead in (less-same u u (ahead ids k) refl ∙ h)) (b .upper))
           (all-flat-by (λ y. ltb u y) (ahead (u ∷ ids)) with (a .after) (λ y h. all-map (ahead (u ∷ ids)) (λ k. y ∷ k) keys (λ k. unfold ahead in less-yes u y (ahead ids k) (ltb-true u y h))) (a .upper));
     }
@@ -183,18 +145,13 @@ cut-keys g (s ∷ labels) (u ∷ ids) e n l =
     cut-more (choices (map (labelled g) labels)) (labelled g s) u ids (cut-strict 0 u (labelled g s) (labelled-strict g s) here)
     (cut-keys g labels ids (omega arith) (λ j h. n (suc j) (omega arith)) (λ j h. l (suc j) (omega arith)))
 
--- a key has at most three ids
-pub labels-few : (d : Constraint) → length (labelsOf d) ≤ 3
-unfolding labelsOf
-labels-few d = keep-most (λ l. not (eqb l 0)) (d .first ∷ d .second ∷ d .third ∷ [])
-
 -- ---- where a key stands in the index
 -- the group of a key, and whether it is one
 abbrev pub groupOf : Graph → Constraint → ℕ → List ℕ → Group
 groupOf g d c ids = record { constraint = c; key = ids; entries = entriesOf g d ids }
 
-abbrev pub filled : Group → Bool
-filled x = not (eqb (length (x .entries)) 0)
+abbrev pub nonempty : Group → Bool
+nonempty x = not (eqb (length (x .entries)) 0)
 
 -- the words by which groups are ordered
 abbrev pub groupWords : Group → List ℕ
@@ -207,7 +164,7 @@ keyWords c ids = c ∷ padded noId ids
 pub record Around (g : Graph) (constraints : List ℕ) (c : ℕ) (ids : List ℕ) : Type 0 where
   pub before : List Group
   pub after : List Group
-  pub whole : indexOf g constraints ≡ before ++ (keep filled (groupOf g (constraintAt constraints c) c ids ∷ []) ++ after)
+  pub whole : indexOf g constraints ≡ before ++ (keep nonempty (groupOf g (constraintAt constraints c) c ids ∷ []) ++ after)
   pub lower : all (λ x. ahead (groupWords x) (keyWords c ids)) before ≡ true
   pub upper : all (λ x. ahead (keyWords c ids) (groupWords x)) after ≡ true
 
@@ -226,52 +183,52 @@ module _ (g : Graph) (constraints : List ℕ) (c : ℕ) (ids : List ℕ) (h : c 
   pub number-cut : Cut ltb c (range 0 (constraintsIn constraints))
   number-cut =
       let n = constraintsIn constraints in
-      cut-strict 0 c (range 0 n) (range-from 0 n) (range-has c 0 n (omega arith) ∙ lt-ltb c (0 + n) (omega arith))
+      cut-strict 0 c (range 0 n) (range-from 0 n) (has-range c 0 n (omega arith) ∙ lt-ltb c (0 + n) (omega arith))
 
   short : length ids ≤ 3
   short = let e = key .size in let k = labels-few (constraintAt constraints c) in omega arith
 
   -- the groups of one constraint
-  own-groups : groups c ≡ keep filled (map make (key-cut .before)) ++ (keep filled (make ids ∷ []) ++ keep filled (map make (key-cut .after)))
+  own-groups : groups c ≡ keep nonempty (map make (key-cut .before)) ++ (keep nonempty (make ids ∷ []) ++ keep nonempty (map make (key-cut .after)))
   unfolding groupsOf
   own-groups =
-      ap (λ l. keep filled (map make l)) (key-cut .whole)
-      ∙ ap (keep filled) (map-append make (key-cut .before) (ids ∷ key-cut .after))
-      ∙ keep-append filled (map make (key-cut .before)) (make ids ∷ map make (key-cut .after))
-      ∙ ap (λ l. keep filled (map make (key-cut .before)) ++ l) (keep-append filled (make ids ∷ []) (map make (key-cut .after)))
+      ap (λ l. keep nonempty (map make l)) (key-cut .whole)
+      ∙ ap (keep nonempty) (map-append make (key-cut .before) (ids ∷ key-cut .after))
+      ∙ keep-append nonempty (map make (key-cut .before)) (make ids ∷ map make (key-cut .after))
+      ∙ ap (λ l. keep nonempty (map make (key-cut .before)) ++ l) (keep-append nonempty (make ids ∷ []) (map make (key-cut .after)))
 
   -- those of an earlier constraint come before, those of a later one after
   other-before : (y : ℕ) → y < c → all (λ x. ahead (groupWords x) (keyWords c ids)) (groups y) ≡ true
   unfolding groupsOf ahead
   other-before y k =
-      all-kept filled (λ x. ahead (groupWords x) (keyWords c ids)) (map (groupOf g (constraintAt constraints y) y) (keysOf g (constraintAt constraints y)))
+      all-kept nonempty (λ x. ahead (groupWords x) (keyWords c ids)) (map (groupOf g (constraintAt constraints y) y) (keysOf g (constraintAt constraints y)))
       (all-map (λ x. ahead (groupWords x) (keyWords c ids)) (groupOf g (constraintAt constraints y) y) (keysOf g (constraintAt constraints y))
       (λ i. less-yes y c (ahead (padded noId i) (padded noId ids)) k))
 
   other-after : (y : ℕ) → c < y → all (λ x. ahead (keyWords c ids) (groupWords x)) (groups y) ≡ true
   unfolding groupsOf ahead
   other-after y k =
-      all-kept filled (λ x. ahead (keyWords c ids) (groupWords x)) (map (groupOf g (constraintAt constraints y) y) (keysOf g (constraintAt constraints y)))
+      all-kept nonempty (λ x. ahead (keyWords c ids) (groupWords x)) (map (groupOf g (constraintAt constraints y) y) (keysOf g (constraintAt constraints y)))
       (all-map (λ x. ahead (keyWords c ids) (groupWords x)) (groupOf g (constraintAt constraints y) y) (keysOf g (constraintAt constraints y))
       (λ i. less-yes c y (ahead (padded noId ids) (padded noId i)) k))
 
-  own-before : all (λ x. ahead (groupWords x) (keyWords c ids)) (keep filled (map make (key-cut .before))) ≡ true
+  own-before : all (λ x. ahead (groupWords x) (keyWords c ids)) (keep nonempty (map make (key-cut .before))) ≡ true
   unfolding ahead
   own-before =
-      all-kept filled (λ x. ahead (groupWords x) (keyWords c ids)) (map make (key-cut .before))
+      all-kept nonempty (λ x. ahead (groupWords x) (keyWords c ids)) (map make (key-cut .before))
       (all-map-by (λ k. ahead k ids) (λ x. ahead (groupWords x) (keyWords c ids)) make (key-cut .before)
       (λ k e. less-same c c (ahead (padded noId k) (padded noId ids)) refl ∙ ahead-padded k ids (let m = short in omega arith) e) (key-cut .lower))
 
-  own-after : all (λ x. ahead (keyWords c ids) (groupWords x)) (keep filled (map make (key-cut .after))) ≡ true
+  own-after : all (λ x. ahead (keyWords c ids) (groupWords x)) (keep nonempty (map make (key-cut .after))) ≡ true
   unfolding ahead
   own-after =
-      all-kept filled (λ x. ahead (keyWords c ids) (groupWords x)) (map make (key-cut .after))
+      all-kept nonempty (λ x. ahead (keyWords c ids) (groupWords x)) (map make (key-cut .after))
       (all-map-by (ahead ids) (λ x. ahead (keyWords c ids) (groupWords x)) make (key-cut .after)
       (λ k e. less-same c c (ahead (padded noId ids) (padded noId k)) refl ∙ ahead-padded ids k (let m = short in omega arith) e) (key-cut .upper))
 
   whole-index : indexOf g constraints
-      ≡ (flatMap groups (number-cut .before) ++ keep filled (map make (key-cut .before)))
-      ++ (keep filled (make ids ∷ []) ++ (keep filled (map make (key-cut .after)) ++ flatMap groups (number-cut .after)))
+      ≡ (flatMap groups (number-cut .before) ++ keep nonempty (map make (key-cut .before)))
+      ++ (keep nonempty (make ids ∷ []) ++ (keep nonempty (map make (key-cut .after)) ++ flatMap groups (number-cut .after)))
   unfolding indexOf flatMap
   whole-index =
       ap (flatMap groups) (number-cut .whole)
@@ -281,15 +238,15 @@ module _ (g : Graph) (constraints : List ℕ) (c : ℕ) (ids : List ℕ) (h : c 
 
   pub key-around : Around g constraints c ids
   key-around = record {
-    before = flatMap groups (number-cut .before) ++ keep filled (map make (key-cut .before));
-    after = keep filled (map make (key-cut .after)) ++ flatMap groups (number-cut .after);
+    before = flatMap groups (number-cut .before) ++ keep nonempty (map make (key-cut .before));
+    after = keep nonempty (map make (key-cut .after)) ++ flatMap groups (number-cut .after);
     whole = whole-index;
     lower =
-        all-joined (λ x. ahead (groupWords x) (keyWords c ids)) (flatMap groups (number-cut .before)) (keep filled (map make (key-cut .before)))
+        all-appended (λ x. ahead (groupWords x) (keyWords c ids)) (flatMap groups (number-cut .before)) (keep nonempty (map make (key-cut .before)))
         (all-flat-by (λ y. ltb y c) (λ x. ahead (groupWords x) (keyWords c ids)) groups (number-cut .before) (λ y k. other-before y (ltb-true y c k)) (number-cut .lower))
         own-before;
     upper =
-        all-joined (λ x. ahead (keyWords c ids) (groupWords x)) (keep filled (map make (key-cut .after))) (flatMap groups (number-cut .after))
+        all-appended (λ x. ahead (keyWords c ids) (groupWords x)) (keep nonempty (map make (key-cut .after))) (flatMap groups (number-cut .after))
         own-after
         (all-flat-by (λ y. ltb c y) (λ x. ahead (keyWords c ids) (groupWords x)) groups (number-cut .after) (λ y k. other-after y (ltb-true c y k)) (number-cut .upper));
   }

@@ -1,41 +1,23 @@
 -- The list of a key in a graph: its members, its order, and the directions of its entries. Assumes nothing.
-use mathlib.Core.Path.{_≡_, refl, sym, ap, subst, _∙_}
-use mathlib.Core.Bool.{Bool, true, false, cond, not, _&&_, _||_, and-comm, false≢true}
+use mathlib.Core.Path.{_≡_, refl, sym, ap, _∙_}
+use mathlib.Core.Bool.{Bool, true, false, cond, not, _&&_, and-comm}
 use mathlib.Core.List.{List, [], _∷_}
 use Prim.Native.Nat.{ℕ, zero, suc, _+_, _*_, _/_, _%_, _^_, _≤_, _<_}
-use native.Mathlib.Decide.{ℕ-discrete}
 use native.Mathlib.Nat.{div-div-eq-div-mul, div-one, pow-suc, pow-succ'}
 use native.Mathlib.Omega.{arith}
 use lib.Dec.{ltb, eqb}
 use lib.ListN.{length, getD}
-use borrow.Author.Tests.{eq-eqb, ne-eqb, eqb-true, lt-ltb, le-ltb, ltb-true}
-use Rattle.rules.specs.Lists.{range, all, has, keep, From, Strict}
+use borrow.Author.Tests.{eq-eqb, ne-eqb, eqb-true, lt-ltb, ltb-true}
+use Rattle.rules.specs.Lists.{range, all, has}
+use Rattle.laws.specs.Strict.{Strict}
 use Rattle.rules.specs.Graph.{Graph, neighbours, labelled}
 use Rattle.rules.specs.Index.{listOf, directionsOf}
 use Rattle.rules.specs.Listing.{bitsFor, bitSet}
 use Rattle.rules.specs.declared.Constraint.{Constraint}
+use Rattle.rules.specs.Store.{labelsOf}
 use Rattle.laws.specs.Cases.{first-holds, second-holds, and-yes}
-use Rattle.laws.specs.Sets.{below}
-use Rattle.laws.specs.Members.{has-keep, keep-from}
-
--- ---- numbers in a row
-pub range-from : (k n : ℕ) → From k (range k n)
-unfolding range From
-range-from k zero = tt
-range-from k (suc n) =
-    let e : k + 1 ≡ suc k = omega arith in
-    (omega arith, subst (λ x. From x (range (k + 1) n)) e (range-from (k + 1) n))
-
-pub range-has : (v k n : ℕ) → k ≤ v → has v (range k n) ≡ ltb v (k + n)
-unfolding range has
-range-has v k zero h = sym (le-ltb v (k + zero) (omega arith))
-range-has v k (suc n) h = go (ℕ-discrete v k) (range-has v (k + 1) n)
-  where
-    go : Dec (v ≡ k) → (k + 1 ≤ v → has v (range (k + 1) n) ≡ ltb v (k + 1 + n)) → (eqb v k || has v (range (k + 1) n)) ≡ ltb v (k + suc n)
-    go (yes e) ih = rw (eq-eqb v k e) (sym (lt-ltb v (k + suc n) (omega arith)))
-    go (no e) ih =
-        let m : k + 1 + n ≡ k + suc n = omega arith in
-        rw (ne-eqb v k e) (ih (omega arith) ∙ ap (ltb v) m)
+use Rattle.laws.specs.Keep.{has-keep, keep-from, keep-most}
+use Rattle.laws.specs.Range.{range-from, has-range}
 
 -- ---- the nodes labelled l
 pub labelled-has : (g : Graph) (l v : ℕ) → has v (labelled g l) ≡ (ltb v (g .size) && eqb (g .label v) l)
@@ -44,11 +26,23 @@ labelled-has g l v =
     let z : 0 + g .size ≡ g .size = omega arith in
     has-keep (λ v. eqb (g .label v) l) v (range 0 (g .size))
     ∙ and-comm (eqb (g .label v) l) (has v (range 0 (g .size)))
-    ∙ ap (λ t. t && eqb (g .label v) l) (range-has v 0 (g .size) (omega arith) ∙ ap (ltb v) z)
+    ∙ ap (λ t. t && eqb (g .label v) l) (has-range v 0 (g .size) (omega arith) ∙ ap (ltb v) z)
 
 pub labelled-strict : (g : Graph) (l : ℕ) → Strict (labelled g l)
 unfolding labelled
 labelled-strict g l = keep-from (λ v. eqb (g .label v) l) 0 (range 0 (g .size)) (range-from 0 (g .size))
+
+-- ---- keys
+-- the ids are a key of the constraint: for each label of S a node with this label, in S's order
+pub record IsKey (g : Graph) (d : Constraint) (ids : List ℕ) : Type 0 where
+  pub size : length ids ≡ length (labelsOf d)
+  pub nodes : (j : ℕ) → j < length ids → getD ids j 0 < g .size
+  pub labels : (j : ℕ) → j < length ids → g .label (getD ids j 0) ≡ getD (labelsOf d) j 0
+
+-- a key has at most three ids
+pub labels-few : (d : Constraint) → length (labelsOf d) ≤ 3
+unfolding labelsOf
+labels-few d = keep-most (λ l. not (eqb l 0)) (d .first ∷ d .second ∷ d .third ∷ [])
 
 -- ---- the list of a key
 module _ (g : Graph) (d : Constraint) (ids : List ℕ) where
@@ -85,13 +79,6 @@ module _ (g : Graph) (d : Constraint) (ids : List ℕ) where
 
   pub list-in : (v : ℕ) → InList v → has v (listOf g d ids) ≡ true
   list-in v x = list-has v ∙ and-yes _ _ (x .joined) (and-yes _ _ (lt-ltb _ _ (x .node)) (eq-eqb _ _ (x .label)))
-
--- what holds of every id holds of the one at j
-pub all-get : (p : ℕ → Bool) (l : List ℕ) (j : ℕ) → all p l ≡ true → j < length l → p (getD l j 0) ≡ true
-unfolding all
-all-get p [] j h k = absurd (omega arith)
-all-get p (x ∷ l) zero h k = first-holds (p x) (all p l) h
-all-get p (x ∷ l) (suc j) h k = all-get p l j (second-holds (p x) (all p l) h) (omega arith)
 
 -- ---- the directions of an entry
 two-four : (j : ℕ) → 2 ^ (2 * j) ≡ 4 ^ j

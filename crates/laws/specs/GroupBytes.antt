@@ -1,39 +1,50 @@
 -- The bytes of groups and entries, read back: the words of each group, and the entries of each list. Assumes nothing.
 use mathlib.Core.Path.{_≡_, refl, sym, ap, _∙_}
-use mathlib.Core.Bool.{Bool, true, false, _&&_, _||_, and-false, or-false, false≢true}
-use mathlib.Core.List.{List, [], _∷_, _++_, map, flatMap, append-assoc, map-append}
-use Prim.Native.Nat.{ℕ, zero, suc, _+_, _*_, _-_, _≤_, _<_}
+use mathlib.Core.Bool.{Bool, true, false, _&&_, and-false, or-false, false≢true}
+use mathlib.Core.List.{List, [], _∷_, _++_, flatMap}
+use Prim.Native.Nat.{ℕ, zero, suc, _+_, _*_, _-_, _<_}
 use native.Mathlib.Nat.{add-assoc, add-zero}
 use native.Mathlib.Omega.{arith}
 use lib.Dec.{ltb, eqb}
-use lib.ListN.{length, getD, take, drop, length-append}
-use lib.Seq.{getD-append-add, take-at, drop-at}
-use borrow.Author.Tests.{ltb-true, lt-ltb, eq-eqb, eqb-true}
+use lib.ListN.{length, getD, take, length-append, length-take, length-map}
+use lib.Seq.{take-at, drop-at}
+use borrow.Author.Tests.{ltb-true, eq-eqb, eqb-true}
 use Rattle.rules.specs.Words.{u32At, u32Bytes, encoded, part}
-use Rattle.rules.specs.Lists.{range, all, has, sum, padded, choices, lessThen}
-use Rattle.rules.specs.Store.{constraintsIn, constraintAt, labelsOf}
-use Rattle.rules.specs.Graph.{Graph, labelled}
-use Rattle.rules.specs.Index.{Group, noId, keysOf, entriesOf, groupsOf, indexOf, groupBytes, listBytes, entryBytes, entryTotal}
+use Rattle.rules.specs.Lists.{all, sum, padded, lessThen, range}
+use Rattle.rules.specs.Index.{Group, noId, groupBytes, listBytes, entryBytes, entryTotal}
 use Rattle.rules.specs.Listing.{precedes, equals, keyOf, entryAt, entryList, listPart}
 use Rattle.rules.specs.declared.Entry.{Entry}
 use Rattle.rules.specs.declared.Key.{Key}
-use Rattle.rules.specs.declared.Constraint.{Constraint}
-use Rattle.laws.specs.Cases.{and-yes, first-holds, second-holds}
-use Rattle.laws.specs.Sets.{first-has}
-use Rattle.laws.specs.Keeping.{all-map, later-has}
-use Rattle.demands.specs.Reading.{Words, words-read, word-of-bytes, length-encoded}
-use Rattle.demands.specs.Admitted.{list-length, entry-length}
-use Rattle.demands.specs.KeyLists.{labelled-has, range-has}
-use Rattle.demands.specs.Places.{all-map-by, all-flat-by, all-kept, flat-append, ahead, ahead-self, filled, groupWords, keyWords}
+use Rattle.laws.specs.Cases.{first-holds, second-holds}
+use Rattle.laws.specs.Words.{Words, words-read, word-of-bytes, length-encoded, byte-behind, word-behind}
+use Rattle.laws.specs.Map.{flat-append}
+use Rattle.laws.specs.Places.{ahead, ahead-self, groupWords, keyWords}
+use Rattle.laws.specs.Range.{map-range, length-range}
 
--- ---- behind some bytes
-pub byte-behind : (a b : List ℕ) (n i : ℕ) → length a ≡ n → getD (a ++ b) (n + i) 0 ≡ getD b i 0
-byte-behind a b n i e = rw (← e) (getD-append-add a b i 0)
+-- ---- how many bytes there are
+pub padded-length : (x : ℕ) (l : List ℕ) → length (padded x l) ≡ 3
+unfolding padded
+padded-length x l = simp (length-take, length-append) (omega arith)
 
-pub word-behind : (a b : List ℕ) (n i : ℕ) → length a ≡ n → u32At (a ++ b) (n + i) ≡ u32At b i
-unfolding u32At
-word-behind a b n i e =
-    rw (add-assoc n i 1, add-assoc n i 2, add-assoc n i 3, byte-behind a b n i e, byte-behind a b n (i + 1) e, byte-behind a b n (i + 2) e, byte-behind a b n (i + 3) e)
+pub group-length : (start : ℕ) (groups : List Group) → length (groupBytes start groups) ≡ length groups * 24
+unfolding groupBytes
+group-length start [] = refl
+group-length start (x ∷ xs) =
+    let n = length (x .entries) in
+    let words = x .constraint ∷ padded noId (x .key) ++ start ∷ n ∷ [] in
+    let six : length words ≡ 6 = simp length-append (omega (arith, padded-length noId (x .key))) in
+    length-append (encoded words) (groupBytes (start + n) xs) ∙ omega (arith, length-encoded words, group-length (start + n) xs)
+
+pub list-length : (l : List Entry) → length (listBytes l) ≡ length l * 8
+unfolding listBytes flatMap
+list-length [] = refl
+list-length (x ∷ xs) = omega (arith, list-length xs)
+
+pub entry-length : (groups : List Group) → length (entryBytes groups) ≡ entryTotal groups * 8
+unfolding entryBytes entryTotal flatMap sum
+entry-length [] = refl
+entry-length (x ∷ xs) =
+    length-append (listBytes (x .entries)) (entryBytes xs) ∙ omega (arith, list-length (x .entries), entry-length xs)
 
 -- ---- the words of a group
 pub padded-three : (x : ℕ) (l : List ℕ) → padded x l ≡ getD l 0 x ∷ getD l 1 x ∷ getD l 2 x ∷ []
@@ -47,8 +58,8 @@ padded-three x (a ∷ b ∷ c ∷ l) = refl
 abbrev pub small : ℕ → Bool
 small u = ltb u 4294967296
 
-abbrev pub narrow : Group → Bool
-narrow x = small (x .constraint) && all small (x .key)
+abbrev pub areWords : Group → Bool
+areWords x = small (x .constraint) && all small (x .key)
 
 -- no group: what stands past the last
 abbrev pub noGroup : Group
@@ -69,7 +80,7 @@ small-get [] j h = omega arith
 small-get (x ∷ l) zero h = ltb-true x 4294967296 (first-holds (small x) (all small l) h)
 small-get (x ∷ l) (suc j) h = small-get l j (second-holds (small x) (all small l) h)
 
-first-group : (x : Group) (start : ℕ) (rest : List ℕ) → narrow x ≡ true → start + length (x .entries) < 4294967296
+first-group : (x : Group) (start : ℕ) (rest : List ℕ) → areWords x ≡ true → start + length (x .entries) < 4294967296
     → GroupAt (encoded (sixWords start x) ++ rest) 0 x start
 first-group x start rest h k =
     let ids = x .key in
@@ -107,16 +118,16 @@ later-group x y start at i rest r =
     }
 
 -- each group is read back; its list starts where the lists before it end
-pub group-at : (groups : List Group) (start i : ℕ) → all narrow groups ≡ true → start + entryTotal groups < 4294967296 → i < length groups
+pub group-at : (groups : List Group) (start i : ℕ) → all areWords groups ≡ true → start + entryTotal groups < 4294967296 → i < length groups
     → GroupAt (groupBytes start groups) i (getD groups i noGroup) (start + entryTotal (take i groups))
 unfolding groupBytes entryTotal sum all
 group-at [] start i h k l = absurd (omega arith)
 group-at (x ∷ xs) start zero h k l =
-    rw (add-zero start) (first-group x start (groupBytes (start + length (x .entries)) xs) (first-holds (narrow x) (all narrow xs) h) (omega arith))
+    rw (add-zero start) (first-group x start (groupBytes (start + length (x .entries)) xs) (first-holds (areWords x) (all areWords xs) h) (omega arith))
 group-at (x ∷ xs) start (suc i) h k l =
     let n = length (x .entries) in
     later-group x (getD xs i noGroup) start (start + entryTotal (take (suc i) (x ∷ xs))) i (groupBytes (start + n) xs)
-    (rw (add-assoc start n (entryTotal (take i xs))) at (group-at xs (start + n) i (second-holds (narrow x) (all narrow xs) h) (omega arith) (omega arith)))
+    (rw (add-assoc start n (entryTotal (take i xs))) at (group-at xs (start + n) i (second-holds (areWords x) (all areWords xs) h) (omega arith) (omega arith)))
 
 -- ---- the words of a key
 module _ (a b c d p q r s : ℕ) where
@@ -216,17 +227,9 @@ entry-at (x ∷ l) zero h k = record {
 }
 entry-at (x ∷ l) (suc i) h k = later-entry x (getD l i noEntry) i (listBytes l) (entry-at l i (second-holds (smallNode x) (all smallNode l) h) (omega arith))
 
--- a list by its elements
-map-range : {A : Type 0} (f : ℕ → A) (d : A) (k : ℕ) (l : List A) → ((i : ℕ) → i < length l → f (k + i) ≡ getD l i d) → map f (range k (length l)) ≡ l
-unfolding range
-map-range f d k [] h = refl
-map-range f d k (x ∷ l) h =
-    let first : f k ≡ x = rw (add-zero k) at (h 0 (omega arith)) in
-    let more : (i : ℕ) → i < length l → f (k + 1 + i) ≡ getD l i d = λ i m. rw (add-assoc k 1 i) (rw (one-plus i) (h (suc i) (omega arith))) in
-    cc (first, map-range f d (k + 1) l more)
-  where
-    one-plus : (i : ℕ) → 1 + i ≡ suc i
-    one-plus i = omega arith
+pub length-entries : (list : List ℕ) (count : ℕ) → length (entryList list count) ≡ count
+unfolding entryList
+length-entries list count = length-map (range 0 count) (entryAt list) ∙ length-range 0 count
 
 -- so the list is read back
 pub list-read : (l : List Entry) → all smallNode l ≡ true → entryList (listBytes l) (length l) ≡ l

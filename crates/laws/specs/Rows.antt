@@ -2,24 +2,27 @@
 use native.Mathlib.Omega.{arith}
 use mathlib.Core.Path.{_≡_, refl, sym, ap, _∙_}
 use mathlib.Core.Bool.{Bool, true, false, cond, not, _&&_}
-use mathlib.Core.List.{List, [], _∷_, map, flatMap}
-use mathlib.Core.Option.{Option, some, none}
-use Prim.Native.Nat.{ℕ, _+_, _≤_, _<_}
+use mathlib.Core.List.{List, [], _∷_, map, flatMap, _++_}
+use mathlib.Core.Option.{some, Option, none}
+use Prim.Native.Nat.{ℕ, _+_, _≤_, _<_, zero, suc, _*_}
 use lib.Dec.{eqb, ltb}
-use lib.ListN.{length}
+use lib.ListN.{length, getD}
 use borrow.Author.Tests.{eqb-true, ne-eqb, ltb-true}
 use Rattle.rules.specs.Lists.{range, keep, has, choices}
 use Rattle.rules.specs.Store.{constraintsIn, constraintAt, labelsOf}
 use Rattle.rules.specs.Pattern.{sizeOf, edgesOf, patternLabel, patternFrom, patternTo, joined}
-use Rattle.rules.specs.Plan.{rowOf, chosenOf, covered, coveredWith, waysBy, figureBy, smaller, smallest, nodeWays, allWays, endsOf, otherEnd, endWays, edgeWays}
+use Rattle.rules.specs.Plan.{rowOf, chosenOf, covered, coveredWith, waysBy, figureBy, smallest, nodeWays, allWays, endsOf, otherEnd, endWays, edgeWays, figuresWith, nodeRowsFrom, listed, rowWords}
 use Rattle.rules.specs.declared.Constraint.{Constraint}
 use Rattle.rules.specs.declared.Row.{Row}
 use Rattle.laws.specs.Cases.{first-holds, second-holds}
-use Rattle.laws.specs.Keeping.{keep-most}
-use Rattle.laws.specs.Members.{has-keep}
+use Rattle.laws.specs.Keep.{has-keep}
 use Rattle.laws.specs.PatternLaws.{RightPattern, edge-says}
-use Rattle.demands.specs.KeyLists.{range-has}
-use Rattle.demands.specs.Every.{Every, every-more, every-map, every-flat, every-keep, every-range, Beside, beside-more, beside-length, beside-every, choices-beside}
+use Rattle.laws.specs.Every.{Every, every-more, every-map, every-flat, every-keep, every-range}
+use Rattle.laws.specs.Beside.{Beside, beside-more, beside-length, beside-every}
+use Rattle.laws.specs.Choices.{choices-beside}
+use Rattle.laws.specs.Range.{has-range}
+use Rattle.laws.specs.KeyLists.{labels-few}
+use Rattle.laws.specs.Smallest.{smallest-every}
 
 -- ---- what a row says
 -- w may be chosen for label l where u is fetched: a covered neighbour of u with this label
@@ -29,12 +32,15 @@ pub record Pick (b figures : List ℕ) (u l w : ℕ) : Type 0 where
   pub near : joined b u w ≡ true
   pub label : patternLabel b w ≡ l
 
--- a row fetches a node by a constraint for its label, one node being chosen for each label of S; its figure is N times theirs
+-- a row fetches a node by a constraint for its label, one node being chosen for each label of S, in its first places; its figure is N times theirs
 pub record Fetches (constraints b figures : List ℕ) (row : Row) : Type 0 where
   pub constraint : row .constraint < constraintsIn constraints
   pub fetched : row .fetched < sizeOf b
   pub label : patternLabel b (row .fetched) ≡ constraintAt constraints (row .constraint) .label
   pub chosen : Beside (Pick b figures (row .fetched)) (labelsOf (constraintAt constraints (row .constraint))) (chosenOf row)
+  pub first : row .first ≡ getD (chosenOf row) 0 255
+  pub second : row .second ≡ getD (chosenOf row) 1 255
+  pub third : row .third ≡ getD (chosenOf row) 2 255
   pub figure : row .figure ≡ figureBy figures (constraintAt constraints (row .constraint)) (chosenOf row)
 
 -- a node row fetches its node
@@ -44,13 +50,17 @@ pub record NodeRow (constraints b figures : List ℕ) (row : Row) : Type 0 where
   pub number : row .number ≡ row .fetched
 
 -- the row of edge j fetches one end of it, and the other end is among the chosen nodes
-pub record EdgeRow (constraints b figures : List ℕ) (j : ℕ) (row : Row) : Type 0 where
-  pub fetches : Fetches constraints b figures row
-  pub kind : row .kind ≡ 1
+pub record EdgeOk (b : List ℕ) (j : ℕ) (row : Row) : Type 0 where
   pub number : row .number ≡ j
   pub below : j < edgesOf b
   pub ends : (row .fetched ≡ patternTo b j → ⊥) → row .fetched ≡ patternFrom b j
   pub other : has (otherEnd b j (row .fetched)) (chosenOf row) ≡ true
+
+-- an edge row does so for its edge
+pub record EdgeRow (constraints b figures : List ℕ) (j : ℕ) (row : Row) : Type 0 where
+  pub fetches : Fetches constraints b figures row
+  pub kind : row .kind ≡ 1
+  pub edge : EdgeOk b j row
 
 -- ---- the ways are such
 with-label : (b figures : List ℕ) (u l w : ℕ) → has w (coveredWith b figures u l) ≡ true → Pick b figures u l w
@@ -61,7 +71,7 @@ with-label b figures u l w h =
     let q : test ≡ true = first-holds test (has w (range 0 (sizeOf b))) k in
     let front = first-holds (covered figures w && joined b u w) (eqb (patternLabel b w) l) q in
     record {
-      below = omega (arith, ltb-true w (0 + sizeOf b) (sym (range-has w 0 (sizeOf b) (omega arith)) ∙ second-holds test (has w (range 0 (sizeOf b))) k));
+      below = omega (arith, ltb-true w (0 + sizeOf b) (sym (has-range w 0 (sizeOf b) (omega arith)) ∙ second-holds test (has w (range 0 (sizeOf b))) k));
       known = first-holds (covered figures w) (joined b u w) front;
       near = second-holds (covered figures w) (joined b u w) front;
       label = eqb-true (patternLabel b w) l (second-holds (covered figures w && joined b u w) (eqb (patternLabel b w) l) q);
@@ -82,10 +92,6 @@ ways-are b figures u c = go (eqb (patternLabel b u) (c .label)) refl
     go false e = tt
 
 -- ---- a row as the ways make it
-labels-few : (c : Constraint) → length (labelsOf c) ≤ 3
-unfolding labelsOf
-labels-few c = keep-most (λ l. not (eqb l 0)) (c .first ∷ c .second ∷ c .third ∷ [])
-
 not-none : (m x : ℕ) → m ≤ 8 → x < m → x ≡ 255 → ⊥
 not-none m x s h e = omega arith
 
@@ -117,6 +123,9 @@ module _ (constraints b figures : List ℕ) (small : sizeOf b ≤ 8) where
         fetched = l;
         label = w .0;
         chosen = rw (made-back kind number u c chosen (w .1)) (w .1);
+        first = ap (λ l. getD l 0 255) (sym (made-back kind number u c chosen (w .1)));
+        second = ap (λ l. getD l 1 255) (sym (made-back kind number u c chosen (w .1)));
+        third = ap (λ l. getD l 2 255) (sym (made-back kind number u c chosen (w .1)));
         figure = ap (figureBy figures (constraintAt constraints c)) (sym (made-back kind number u c chosen (w .1)));
       }
 
@@ -163,10 +172,7 @@ module _ (constraints b figures : List ℕ) (small : sizeOf b ≤ 8) where
         record {
           fetches = made-fetches 1 j f c chosen k (e .0) (w .0);
           kind = refl;
-          number = refl;
-          below = l;
-          ends = e .1;
-          other = rw (made-back 1 j f c chosen (w .0 .1)) (w .1);
+          edge = record { number = refl; below = l; ends = e .1; other = rw (made-back 1 j f c chosen (w .0 .1)) (w .1) };
         }
 
     end-ways : (c f : ℕ) → c < constraintsIn constraints → End j f → Every (EdgeRow constraints b figures j) (endWays constraints b figures j c f)
@@ -185,26 +191,6 @@ module _ (constraints b figures : List ℕ) (small : sizeOf b ≤ 8) where
         (range 0 (constraintsIn constraints)) (every-range (constraintsIn constraints) 0 (constraintsIn constraints) (omega arith))
 
 -- ---- the smallest way is one of the ways
-abbrev Held : (Row → Type 0) → Option Row → Type 0
-Held P none = Unit {0}
-Held P (some r) = P r
-
-held : (P : Row → Type 0) (ws : List Row) → Every P ws → Held P (smallest ws)
-unfolding smallest smaller Every
-held P [] h = tt
-held P (w ∷ ws) h = go (smallest ws) (held P ws (h .1))
-  where
-    pick : (q : Row) (t : Bool) → P q → P (cond t q w)
-    pick q true k = k
-    pick q false k = h .0
-
-    go : (o : Option Row) → Held P o → P (smaller w o)
-    go none k = h .0
-    go (some q) k = pick q (ltb (q .figure) (w .figure)) k
-
-smallest-every : (P : Row → Type 0) (ws : List Row) → Every P ws → (r : Row) → smallest ws ≡ some r → P r
-smallest-every P ws h r e = rw e at (held P ws h)
-
 module _ (constraints b figures : List ℕ) (right : RightPattern b) where
   -- the next row after these figures is a node row
   pub next-row : (r : Row) → smallest (allWays constraints b figures) ≡ some r → NodeRow constraints b figures r
@@ -214,3 +200,29 @@ module _ (constraints b figures : List ℕ) (right : RightPattern b) where
   pub edge-row : (j : ℕ) → j < edgesOf b → (r : Row) → smallest (edgeWays constraints b figures j) ≡ some r → EdgeRow constraints b figures j r
   edge-row j l =
       smallest-every (EdgeRow constraints b figures j) (edgeWays constraints b figures j) (edge-ways constraints b figures (right .header .few) right j l)
+
+-- ---- how many rows, and how many words they have
+-- at most one row for each node and each edge
+pub node-few : (constraints b : List ℕ) (n : ℕ) (figures : List ℕ) → length (nodeRowsFrom constraints b n figures) ≤ n
+unfolding nodeRowsFrom
+node-few constraints b zero figures = omega arith
+node-few constraints b (suc n) figures = go (smallest (allWays constraints b figures)) (λ next. node-few constraints b n next)
+  where
+    go : (o : Option Row) → ((next : List ℕ) → length (nodeRowsFrom constraints b n next) ≤ n)
+        → length {A = Row} (elim o as (λ x. List Row) [ none ↦ [] | some r ↦ r ∷ nodeRowsFrom constraints b n (figuresWith figures r) ]) ≤ suc n
+    go none ih = omega arith
+    go (some r) ih = let k = ih (figuresWith figures r) in omega arith
+
+pub edge-few : (f : ℕ → Option Row) (k n : ℕ) → length (flatMap (λ j. listed (f j)) (range k n)) ≤ n
+unfolding flatMap range listed
+edge-few f k zero = omega arith
+edge-few f k (suc n) = go (f k) (edge-few f (k + 1) n)
+  where
+    go : (o : Option Row) → length (flatMap (λ j. listed (f j)) (range (k + 1) n)) ≤ n → length (listed o ++ flatMap (λ j. listed (f j)) (range (k + 1) n)) ≤ suc n
+    go none h = omega arith
+    go (some r) h = omega arith
+
+pub words-length : (xs : List Row) → length (flatMap rowWords xs) ≡ length xs * 8
+unfolding flatMap rowWords
+words-length [] = refl
+words-length (x ∷ xs) = let ih = words-length xs in omega arith

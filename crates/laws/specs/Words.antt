@@ -1,48 +1,19 @@
--- Reading back what was written: runs of bytes compared, words encoded and read. Assumes nothing.
+-- Words as bytes: encoded, and read back. Assumes nothing.
 use mathlib.Core.Path.{_≡_, refl, _∙_}
-use mathlib.Core.Bool.{true, false≢true}
-use mathlib.Core.Logic.{_↔_}
 use mathlib.Core.List.{List, [], _∷_, _++_}
 use Prim.Native.Nat.{ℕ, zero, suc, _+_, _*_, _/_, _%_, _<_}
 use native.Mathlib.Nat.{add-assoc, div-div-eq-div-mul, mod-add-div', mod-eq-of-lt}
 use native.Mathlib.Omega.{arith}
-use lib.Dec.{eqb}
 use lib.ListN.{length, getD}
 use lib.Seq.{getD-append-add}
-use borrow.Author.Tests.{eqb-true, eq-eqb}
 use Rattle.rules.specs.Words.{word, u32At, u32Bytes, encoded}
-use Rattle.rules.specs.Answers.{same}
-use Rattle.laws.specs.Cases.{first-holds, second-holds}
 
--- ---- two runs of bytes compared
-pub same-equal : (a b : List ℕ) → same a b ≡ true → a ≡ b
-unfolding same
-same-equal [] [] h = refl
-same-equal [] (y ∷ b) h = absurd (false≢true h)
-same-equal (x ∷ a) [] h = absurd (false≢true h)
-same-equal (x ∷ a) (y ∷ b) h =
-    let head : x ≡ y = eqb-true _ _ (first-holds (eqb x y) (same a b) h) in
-    let tail : a ≡ b = same-equal a b (second-holds (eqb x y) (same a b) h) in
-    cc
-
-same-self : (a : List ℕ) → same a a ≡ true
-unfolding same
-same-self [] = refl
-same-self (x ∷ a) = rw (eq-eqb x x refl) (same-self a)
-
-pub equal-same : (a b : List ℕ) → a ≡ b → same a b ≡ true
-equal-same a b e = rw e (same-self b)
-
--- Two runs are the same exactly when they are equal.
-pub same-exactly : (a b : List ℕ) → (same a b ≡ true) ↔ (a ≡ b)
-same-exactly a b = (same-equal a b, equal-same a b)
-
--- ---- every element of a run is a byte: true of every slice of bytes
+-- every element of a run is a byte: true of every slice of bytes
 abbrev pub Bytes : List ℕ → Type 0
 Bytes s = (i : ℕ) → getD s i 0 < 256
 
 -- a number by its digits to the base 256
-digits : (x a q b r c d : ℕ) → a + q * 256 ≡ x → b + r * 256 ≡ q → c + d * 256 ≡ r → word a b c d ≡ x
+pub digits : (x a q b r c d : ℕ) → a + q * 256 ≡ x → b + r * 256 ≡ q → c + d * 256 ≡ r → word a b c d ≡ x
 digits x a q b r c d ea eb ec = omega arith
 
 -- the word of the four bytes of x is x, for x below 4,294,967,296
@@ -74,6 +45,16 @@ pub bytes-read : (s : List ℕ) (i : ℕ) → Bytes s
 unfolding u32At
 bytes-read s i h = bytes-of-word _ _ _ _ (h i) (h (i + 1)) (h (i + 2)) (h (i + 3))
 
+-- ---- behind some bytes
+pub byte-behind : (a b : List ℕ) (n i : ℕ) → length a ≡ n → getD (a ++ b) (n + i) 0 ≡ getD b i 0
+byte-behind a b n i e = rw (← e) (getD-append-add a b i 0)
+
+pub word-behind : (a b : List ℕ) (n i : ℕ) → length a ≡ n → u32At (a ++ b) (n + i) ≡ u32At b i
+unfolding u32At
+word-behind a b n i e =
+    rw (add-assoc n i 1, add-assoc n i 2, add-assoc n i 3, byte-behind a b n i e, byte-behind a b n (i + 1) e, byte-behind a b n (i + 2) e, byte-behind a b n (i + 3) e)
+
+-- ---- runs of words
 -- a run of words has four bytes for each
 pub length-encoded : (ws : List ℕ) → length (encoded ws) ≡ 4 * length ws
 unfolding encoded
@@ -85,15 +66,6 @@ unfoldable pub Words : List ℕ → Type 0
 Words [] = Unit {0}
 Words (x ∷ ws) = (x < 4294967296) × Words ws
 
--- a byte, and a word, behind four bytes
-byte-on : (a b c d : ℕ) (s : List ℕ) (i : ℕ) → getD (a ∷ b ∷ c ∷ d ∷ s) (4 + i) 0 ≡ getD s i 0
-byte-on a b c d s i = getD-append-add (a ∷ b ∷ c ∷ d ∷ []) s i 0
-
-word-on : (a b c d : ℕ) (s : List ℕ) (i : ℕ) → u32At (a ∷ b ∷ c ∷ d ∷ s) (4 + i) ≡ u32At s i
-unfolding u32At
-word-on a b c d s i =
-    rw (add-assoc 4 i 1, add-assoc 4 i 2, add-assoc 4 i 3, byte-on a b c d s i, byte-on a b c d s (i + 1), byte-on a b c d s (i + 2), byte-on a b c d s (i + 3))
-
 -- reading where the i-th word was written gives that word, whatever follows; the numbers are words, and i is one of their places
 pub words-read : (ws rest : List ℕ) (i : ℕ) → Words ws → i < length ws → u32At (encoded ws ++ rest) (4 * i) ≡ getD ws i 0
 unfolding encoded Words
@@ -101,4 +73,4 @@ words-read [] rest i h b = omega arith
 words-read (x ∷ ws) rest zero h b = unfold u32At in word-of-bytes x (h .0)
 words-read (x ∷ ws) rest (suc i) h b =
     let e : 4 * suc i ≡ 4 + 4 * i = omega arith in
-    rw e (word-on _ _ _ _ (encoded ws ++ rest) (4 * i) ∙ words-read ws rest i (h .1) (omega arith))
+    rw e (word-behind (u32Bytes x) (encoded ws ++ rest) 4 (4 * i) refl ∙ words-read ws rest i (h .1) (omega arith))

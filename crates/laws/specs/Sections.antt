@@ -1,7 +1,7 @@
 -- Bytes under a header that fits them, and what two runs of bytes with the same nodes, edges and constraints have in common. Assumes nothing.
 use mathlib.Core.Path.{_≡_, refl, sym, ap, _∙_}
-use mathlib.Core.Bool.{Bool, true, false, not, _||_, false≢true}
-use mathlib.Core.List.{List, [], _∷_, _++_}
+use mathlib.Core.Bool.{true}
+use mathlib.Core.List.{List, [], _∷_, _++_, append-assoc}
 use Prim.Native.Nat.{ℕ, _+_, _-_, _*_, _≤_}
 use native.Mathlib.Omega.{arith}
 use lib.Dec.{ltb}
@@ -9,19 +9,20 @@ use lib.ListN.{length, take, drop, length-append}
 use lib.Seq.{take-at, drop-at}
 use borrow.Author.Tests.{eq-eqb, le-leb, ltb-false}
 use Rattle.rules.specs.Words.{u32At, part}
-use Rattle.rules.specs.Lists.{all, range}
-use Rattle.rules.specs.Store.{nodeCount, edgeCount, constraintCount, groupCount, entryCount, edgesAt, constraintsAt, groupsAt, entriesAt, endAt}
-use Rattle.rules.specs.Store.{countsRight, offsetsRight, wordsRight, headerRight, header, nodePart, edgePart, constraintPart}
-use Rattle.rules.specs.Store.{recordsRight, constraintsRight, constraintsIn, constraintAt}
+use Rattle.rules.specs.Store.{mostNodes, mostEdges, mostConstraints, mostGroups, mostEntries, nodeCount, edgeCount, constraintCount, groupCount, entryCount, edgesAt, constraintsAt, groupsAt, entriesAt, endAt, countsRight, offsetsRight, wordsRight, headerRight, header, nodePart, edgePart, constraintPart, recordsRight}
 use Rattle.rules.specs.Graph.{storeGraph}
-use Rattle.rules.specs.Index.{storeIndex, entryTotal, exceeds, tooMany, satisfies, storeOf}
-use Rattle.rules.specs.Answers.{graphNumber}
-use Rattle.laws.specs.Cases.{and-yes}
-use Rattle.laws.specs.Parts.{part-part}
-use Rattle.demands.specs.Reading.{Words, words-read, length-encoded}
+use Rattle.rules.specs.Index.{Group, groupBytes, entryBytes, storeIndex, entryTotal, exceeds, tooLarge, tooMany, storeWith, storeOf}
+use Rattle.laws.specs.Refusals.{graphNumber, graph-zero}
+use Rattle.laws.specs.Cases.{and-yes, or-first, or-second}
+use Rattle.laws.specs.Parts.{part-part, part-add, nodes-in, edges-in, constraints-in}
+use Rattle.laws.specs.Words.{Words, words-read, length-encoded}
+
+pub header-length : (n m k g e : ℕ) → length (header n m k g e) ≡ 48
+unfolding header
+header-length n m k g e = length-encoded _
 
 -- ---- bytes under a header with counts within their limits
-module _ (n m k g e : ℕ) (hn : n ≤ 65535) (hm : m ≤ 262144) (hk : k ≤ 32) (hg : g ≤ 262144) (he : e ≤ 1048576) (rest : List ℕ) where
+module _ (n m k g e : ℕ) (hn : n ≤ mostNodes) (hm : m ≤ mostEdges) (hk : k ≤ mostConstraints) (hg : g ≤ mostGroups) (he : e ≤ mostEntries) (rest : List ℕ) where
   words-small :
       Words
       (1 ∷ n ∷ m ∷ k ∷ g ∷ e
@@ -80,19 +81,15 @@ module _ (n m k g e : ℕ) (hn : n ≤ 65535) (hm : m ≤ 262144) (hk : k ≤ 32
   unfolding header
   total-read = words-read _ rest 11 words-small (omega arith)
 
-  pub header-length : length (header n m k g e) ≡ 48
-  unfolding header
-  header-length = length-encoded _
-
   counts-hold : countsRight (header n m k g e ++ rest) ≡ true
   unfolding countsRight
   counts-hold =
       let s = header n m k g e ++ rest in
-      let ln : nodeCount s ≤ 65535 = rw nodes-read hn in
-      let lm : edgeCount s ≤ 262144 = rw edges-read hm in
-      let lk : constraintCount s ≤ 32 = rw constraints-read hk in
-      let lg : groupCount s ≤ 262144 = rw groups-read hg in
-      let le : entryCount s ≤ 1048576 = rw entries-read he in
+      let ln : nodeCount s ≤ mostNodes = rw nodes-read hn in
+      let lm : edgeCount s ≤ mostEdges = rw edges-read hm in
+      let lk : constraintCount s ≤ mostConstraints = rw constraints-read hk in
+      let lg : groupCount s ≤ mostGroups = rw groups-read hg in
+      let le : entryCount s ≤ mostEntries = rw entries-read he in
       and-yes _ _
       (and-yes _ _ (and-yes _ _ (and-yes _ _ (le-leb _ _ ln) (le-leb _ _ lm)) (le-leb _ _ lk)) (le-leb _ _ lg))
       (le-leb _ _ le)
@@ -117,7 +114,7 @@ module _ (n m k g e : ℕ) (hn : n ≤ 65535) (hm : m ≤ 262144) (hk : k ≤ 32
   unfolding headerRight wordsRight
   header-right fills =
       let whole : length (header n m k g e ++ rest) ≡ 48 + n * 8 + m * 8 + k * 12 + g * 24 + e * 8 =
-      length-append (header n m k g e) rest ∙ omega (arith, header-length) in
+      length-append (header n m k g e) rest ∙ omega (arith, header-length n m k g e) in
       let long : 48 ≤ length (header n m k g e ++ rest) = omega arith in
       and-yes _ _
       (le-leb _ _ long)
@@ -131,7 +128,7 @@ module _ (n m k g e : ℕ) (hn : n ≤ 65535) (hm : m ≤ 262144) (hk : k ≤ 32
   body-read body tail split l =
       let size : groupsAt (header n m k g e ++ rest) - 48 ≡ length body = omega (arith, nodes-read, edges-read, constraints-read) in
       ap (λ x. take x (drop 48 (header n m k g e ++ rest))) size
-      ∙ ap (take (length body)) (drop-at (header n m k g e) rest 48 header-length ∙ split)
+      ∙ ap (take (length body)) (drop-at (header n m k g e) rest 48 (header-length n m k g e) ∙ split)
       ∙ take-at body tail (length body) refl
 
 -- ---- the same nodes, edges and constraints
@@ -164,56 +161,14 @@ module _ (s : List ℕ) where
       ∙ ap (λ x. part s x (48 + end)) starts
       ∙ ap (part s (constraintsAt s)) ends)
 
--- the number by the four tests
-byTests : Bool → Bool → Bool → Bool → ℕ
-byTests records constraints exceed many =
-    elim records [
-      | true ↦ elim constraints [
-        | true ↦ elim exceed [ true ↦ 4 | false ↦ elim many [ true ↦ 11 | false ↦ 0 ] ]
-        | false ↦ 3
-      ]
-      | false ↦ 2
-    ]
-
-numbered : (s : List ℕ) → graphNumber s ≡ byTests (recordsRight s) (constraintsRight (constraintPart s)) (exceeds s) (tooMany s)
-unfolding graphNumber byTests
-numbered s = refl
-
-few-by : (records constraints exceed many : Bool) → byTests records constraints exceed many ≡ 0 → many ≡ false
-unfolding byTests
-few-by true true false false q = refl
-few-by true true false true q = absurd (omega arith)
-few-by true true true t q = absurd (omega arith)
-few-by true false x t q = absurd (omega arith)
-few-by false c x t q = absurd (omega arith)
-
-or-first : (a b : Bool) → (a || b) ≡ false → a ≡ false
-or-first false b h = refl
-or-first true b h = h
-
-or-second : (a b : Bool) → (a || b) ≡ false → b ≡ false
-or-second false b h = h
-or-second true b h = absurd (false≢true (sym h))
-
 -- where none of 2, 3, 4 and 11 is given, groups and entries are within their limits
-pub few-groups : (s : List ℕ) → graphNumber s ≡ 0 → length (storeIndex s) ≤ 262144
-unfolding tooMany
-few-groups s q = ltb-false _ _ (or-first _ (ltb 1048576 (entryTotal (storeIndex s))) (few-by _ _ _ _ (sym (numbered s) ∙ q)))
+pub few-groups : (s : List ℕ) → graphNumber s ≡ 0 → length (storeIndex s) ≤ mostGroups
+unfolding tooMany tooLarge
+few-groups s q = ltb-false _ _ (or-first _ (ltb mostEntries (entryTotal (storeIndex s))) (graph-zero s q .few))
 
-pub few-entries : (s : List ℕ) → graphNumber s ≡ 0 → entryTotal (storeIndex s) ≤ 1048576
-unfolding tooMany
-few-entries s q = ltb-false _ _ (or-second (ltb 262144 (length (storeIndex s))) _ (few-by _ _ _ _ (sym (numbered s) ∙ q)))
-
-within-by : (records constraints exceed many : Bool) → byTests records constraints exceed many ≡ 0 → exceed ≡ false
-unfolding byTests
-within-by true true false t q = refl
-within-by true true true t q = absurd (omega arith)
-within-by true false x t q = absurd (omega arith)
-within-by false c x t q = absurd (omega arith)
-
--- and no list exceeds its N
-pub none-exceeds : (s : List ℕ) → graphNumber s ≡ 0 → exceeds s ≡ false
-none-exceeds s q = within-by _ _ _ _ (sym (numbered s) ∙ q)
+pub few-entries : (s : List ℕ) → graphNumber s ≡ 0 → entryTotal (storeIndex s) ≤ mostEntries
+unfolding tooMany tooLarge
+few-entries s q = ltb-false _ _ (or-second (ltb mostGroups (length (storeIndex s))) _ (graph-zero s q .few))
 
 module _ (a b : List ℕ) (x : Alike a b) where
   pub nodes-alike : nodePart a ≡ nodePart b
@@ -248,25 +203,46 @@ module _ (a b : List ℕ) (x : Alike a b) where
   unfolding storeIndex
   index-alike = cc (graph-alike, constraints-alike)
 
-  pub records-alike : recordsRight a ≡ recordsRight b
-  unfolding recordsRight
-  records-alike = cc (nodes-alike, edges-alike, x .nodes)
+  pub records-alike : recordsRight (nodePart a) (edgePart a) ≡ recordsRight (nodePart b) (edgePart b)
+  records-alike = cc (nodes-alike, edges-alike)
 
   pub exceeds-alike : exceeds a ≡ exceeds b
   unfolding exceeds
-  exceeds-alike =
-      ap (λ g. not (all (λ c. satisfies g (constraintAt (constraintPart a) c)) (range 0 (constraintsIn (constraintPart a))))) graph-alike
-      ∙ ap (λ p. not (all (λ c. satisfies (storeGraph b) (constraintAt p c)) (range 0 (constraintsIn p)))) constraints-alike
+  exceeds-alike = cc (graph-alike, constraints-alike)
 
   pub tooMany-alike : tooMany a ≡ tooMany b
   unfolding tooMany
   tooMany-alike = rw index-alike
 
   pub graphNumber-alike : graphNumber a ≡ graphNumber b
-  graphNumber-alike =
-      cc (numbered a, numbered b, records-alike, ap constraintsRight constraints-alike, exceeds-alike, tooMany-alike)
+  unfolding graphNumber
+  graphNumber-alike = rw (records-alike, constraints-alike, exceeds-alike, tooMany-alike)
 
   -- building from either gives the same bytes
   pub storeOf-alike : storeOf a ≡ storeOf b
   unfolding storeOf
-  storeOf-alike = rw (index-alike, x .body, x .nodes, x .edges, x .constraints)
+  storeOf-alike = cc (nodes-alike, edges-alike, constraints-alike, index-alike)
+
+-- ---- the bytes of a store with groups of its own, where its header is right
+-- nodes, edges and constraints stand one behind the other
+pub body-parts : (s : List ℕ) → nodePart s ++ edgePart s ++ constraintPart s ≡ part s 48 (groupsAt s)
+body-parts s =
+    let n = nodeCount s * 8 in
+    let m = edgeCount s * 8 in
+    let k = constraintCount s * 12 in
+    let at : 48 + (n + m) ≡ constraintsAt s = omega arith in
+    let end : 48 + (n + m + k) ≡ groupsAt s = omega arith in
+    let rest : part s 48 (48 + (n + m + k)) ≡ part s 48 (constraintsAt s) ++ constraintPart s = rw at at (part-add s 48 (n + m) k) in
+    ap (λ p. p ++ constraintPart s) (sym (part-add s 48 n m) ∙ ap (part s 48) at) ∙ sym rest ∙ ap (part s 48) end
+
+pub store-form : (s : List ℕ) (groups : List Group) → headerRight s ≡ true
+    → storeWith (nodePart s) (edgePart s) (constraintPart s) groups
+    ≡ header (nodeCount s) (edgeCount s) (constraintCount s) (length groups) (entryTotal groups)
+    ++ part s 48 (groupsAt s) ++ groupBytes 0 groups ++ entryBytes groups
+unfolding storeWith
+store-form s groups right =
+    let h = header (nodeCount s) (edgeCount s) (constraintCount s) (length groups) (entryTotal groups) in
+    rw (nodes-in s right, edges-in s right, constraints-in s right)
+    (ap (λ x. x ++ groupBytes 0 groups ++ entryBytes groups)
+    (ap (λ x. x ++ constraintPart s) (append-assoc h (nodePart s) (edgePart s))
+    ∙ append-assoc h (nodePart s ++ edgePart s) (constraintPart s) ∙ ap (λ x. h ++ x) (body-parts s)))

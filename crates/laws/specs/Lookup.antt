@@ -1,8 +1,8 @@
 -- What the lookup of a key finds among the groups of an index. Assumes nothing.
-use mathlib.Core.Path.{_≡_, refl, sym, ap, _∙_}
-use mathlib.Core.Bool.{Bool, true, false, cond, not, _&&_}
-use mathlib.Core.List.{List, [], _∷_, _++_, append-nil}
-use Prim.Native.Nat.{ℕ, zero, suc, _+_, _-_, _*_, _≤_, _<_}
+use mathlib.Core.Path.{_≡_, refl, ap, _∙_}
+use mathlib.Core.Bool.{true, false, cond, not, _&&_}
+use mathlib.Core.List.{List, _∷_, _++_}
+use Prim.Native.Nat.{ℕ, suc, _+_, _-_, _*_, _≤_, _<_}
 use native.Mathlib.Decide.{decLe}
 use native.Mathlib.Nat.{add-zero}
 use native.Mathlib.Omega.{arith}
@@ -11,40 +11,22 @@ use lib.ListN.{length, getD, take, length-append, List·getD-append}
 use lib.Seq.{getD-append-add, take-at}
 use borrow.Author.Tests.{lt-ltb, le-ltb, not-true}
 use Rattle.rules.specs.Words.{u32At}
-use Rattle.rules.specs.Lists.{all, halving}
+use Rattle.rules.specs.Lists.{all}
 use Rattle.rules.specs.Store.{groupsIn}
 use Rattle.rules.specs.Index.{Group, groupBytes, entryTotal}
 use Rattle.rules.specs.Listing.{precedes, equals, keyOf, lowOf, foundAt, found}
-use Rattle.rules.specs.declared.Found.{Found}
 use Rattle.rules.specs.declared.Found.the-variants.{At, Nothing}
-use Rattle.laws.specs.Cases.{and-yes, first-holds, second-holds}
 use Rattle.laws.specs.Searching.{Splits, halving-finds}
-use Rattle.demands.specs.Admitted.{group-length}
-use Rattle.demands.specs.Places.{all-joined, ahead, ahead-self, ahead-after, groupWords, keyWords}
-use Rattle.demands.specs.GroupBytes.{narrow, noGroup, GroupAt, group-at, group-precedes, group-equals, group-other}
+use Rattle.laws.specs.GroupBytes.{group-length, areWords, noGroup, GroupAt, group-at, group-precedes, group-equals, group-other}
+use Rattle.laws.specs.Places.{ahead, ahead-self, ahead-after, groupWords, keyWords}
+use Rattle.laws.specs.All.{all-at, all-more, all-weaken}
 
--- what holds of every group holds of the one at i
-all-at : {A : Type 0} (p : A → Bool) (d : A) (l : List A) (i : ℕ) → all p l ≡ true → i < length l → p (getD l i d) ≡ true
-unfolding all
-all-at p d [] i h k = absurd (omega arith)
-all-at p d (x ∷ l) zero h k = first-holds (p x) (all p l) h
-all-at p d (x ∷ l) (suc i) h k = all-at p d l i (second-holds (p x) (all p l) h) (omega arith)
-
-all-by : {A : Type 0} (p q : A → Bool) (l : List A) → ((x : A) → p x ≡ true → q x ≡ true) → all p l ≡ true → all q l ≡ true
-unfolding all
-all-by p q [] f h = refl
-all-by p q (x ∷ l) f h = and-yes (q x) (all q l) (f x (first-holds (p x) (all p l) h)) (all-by p q l f (second-holds (p x) (all p l) h))
-
-all-more : {A : Type 0} (p : A → Bool) (x : A) (l : List A) → p x ≡ true → all p l ≡ true → all p (x ∷ l) ≡ true
-unfolding all
-all-more p x l h k = and-yes (p x) (all p l) h k
-
-pub groups-in : (groups : List Group) → groupsIn (groupBytes 0 groups) ≡ length groups
-groups-in groups = let e = group-length 0 groups in omega arith
+pub groups-counted : (groups : List Group) → groupsIn (groupBytes 0 groups) ≡ length groups
+groups-counted groups = let e = group-length 0 groups in omega arith
 
 -- groups that are words, with so few entries that each start is one
 pub record Fits (groups : List Group) : Type 0 where
-  pub narrow : all narrow groups ≡ true
+  pub words : all areWords groups ≡ true
   pub few : entryTotal groups < 4294967296
 
 -- those of `before` come before the key, those of `later` don't
@@ -54,7 +36,7 @@ module _ (c : ℕ) (ids : List ℕ) (groups before later : List Group) (fits : F
   size = ap length whole ∙ length-append before later
 
   pub read-at : (i : ℕ) → i < length groups → GroupAt (groupBytes 0 groups) i (getD groups i noGroup) (0 + entryTotal (take i groups))
-  read-at i h = group-at groups 0 i (fits .narrow) (let k = fits .few in omega arith) h
+  read-at i h = group-at groups 0 i (fits .words) (let k = fits .few in omega arith) h
 
   precedes-at : (i : ℕ) → i < length groups → precedes (groupBytes 0 groups) (keyOf c ids) i ≡ ahead (groupWords (getD groups i noGroup)) (keyWords c ids)
   precedes-at i h = group-precedes (groupBytes 0 groups) c ids i (getD groups i noGroup) (0 + entryTotal (take i groups)) (read-at i h)
@@ -67,13 +49,13 @@ module _ (c : ℕ) (ids : List ℕ) (groups before later : List Group) (fits : F
 
   splits : Splits (precedes (groupBytes 0 groups) (keyOf c ids)) (groupsIn (groupBytes 0 groups)) (length before)
   splits = record {
-    within = let n = groups-in groups in let e = size in omega arith;
+    within = let n = groups-counted groups in let e = size in omega arith;
     before = λ i h.
         let e = size in
         precedes-at i (omega arith) ∙ ap (λ x. ahead (groupWords x) (keyWords c ids)) (get-before i h)
         ∙ all-at (λ x. ahead (groupWords x) (keyWords c ids)) noGroup before i lower h;
     after = λ i h k.
-        let n = groups-in groups in
+        let n = groups-counted groups in
         let e = size in
         let j : length before + (i - length before) ≡ i = omega arith in
         let own : getD groups i noGroup ≡ getD later (i - length before) noGroup = rw j at (get-later (i - length before)) in
@@ -92,7 +74,7 @@ module _ (c : ℕ) (ids : List ℕ) (groups before after : List Group) (fits : F
     (lower : all (λ x. ahead (groupWords x) (keyWords c ids)) before ≡ true) (upper : all (λ x. ahead (keyWords c ids) (groupWords x)) after ≡ true) where
   not-before : all (λ x. not (ahead (groupWords x) (keyWords c ids))) after ≡ true
   not-before =
-      all-by (λ x. ahead (keyWords c ids) (groupWords x)) (λ x. not (ahead (groupWords x) (keyWords c ids))) after
+      all-weaken (λ x. ahead (keyWords c ids) (groupWords x)) (λ x. not (ahead (groupWords x) (keyWords c ids))) after
       (λ x h. ap not (ahead-after (keyWords c ids) (groupWords x) h)) upper
 
   -- the group of the key is found: its list starts where the lists before it end
@@ -111,7 +93,7 @@ module _ (c : ℕ) (ids : List ℕ) (groups before after : List Group) (fits : F
       let front : take n groups ≡ before = ap (take n) whole ∙ take-at before (x ∷ after) n refl in
       let start : 0 + entryTotal (take n groups) ≡ entryTotal before = let z : 0 + entryTotal (take n groups) ≡ entryTotal (take n groups) = omega arith in z ∙ ap entryTotal front in
       let r : GroupAt bytes n x (entryTotal before) = rw (here, start) at (read-at c ids groups before (x ∷ after) fits whole lower later n (omega arith)) in
-      rw (low, lt-ltb n (groupsIn bytes) (omega (arith, groups-in groups)), group-equals bytes c ids n x (entryTotal before) r e, r .start, r .count)
+      rw (low, lt-ltb n (groupsIn bytes) (omega (arith, groups-counted groups)), group-equals bytes c ids n x (entryTotal before) r e, r .start, r .count)
 
   -- a key with no group is not found
   pub found-none : groups ≡ before ++ after → found (groupBytes 0 groups) (keyOf c ids) ≡ Nothing
@@ -133,7 +115,7 @@ module _ (c : ℕ) (ids : List ℕ) (groups before after : List Group) (fits : F
       go : Dec (groupsIn bytes ≤ n) → (ltb n (groupsIn bytes) && equals bytes (keyOf c ids) n) ≡ false
       go (yes h) = rw (le-ltb n (groupsIn bytes) h)
       go (no h) =
-          let e = groups-in groups in
+          let e = groups-counted groups in
           let s = size in
           let here : getD groups n noGroup ≡ getD after 0 noGroup = rw (add-zero n) at (get-later c ids groups before after fits whole lower not-before 0) in
           let r = read-at c ids groups before after fits whole lower not-before n (omega arith) in
