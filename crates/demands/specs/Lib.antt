@@ -2,6 +2,7 @@
 -- the theorems
 pub mod Admitted
 pub mod Enough
+pub mod AnyStore
 pub mod Bounded
 pub mod ReadsBounded
 pub mod Local
@@ -24,6 +25,7 @@ pub mod Gathers
 pub mod EdgeRows
 pub mod AllRows
 pub mod Among
+pub mod Standing
 pub mod Exact
 pub mod Ordered
 pub mod Within

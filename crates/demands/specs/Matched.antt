@@ -37,48 +37,65 @@ module _ (g : Graph) (b : List ℕ) (u v : ℕ) where
   unfolding suits
   says-suits s = rw (lt-ltb v (g .size) (s .node), eq-eqb (g .label v) (patternLabel b u) (s .label)) (s .meet)
 
--- ---- a match
-pub record Matched (g : Graph) (b row : List ℕ) : Type 0 where
-  pub size : length row ≡ sizeOf b
-  pub node : (u : ℕ) → u < sizeOf b → suits g b u (image row u) ≡ true
-  pub own : (u : ℕ) → u < sizeOf b → alone row u ≡ true
-  pub edge : (j : ℕ) → j < edgesOf b → g .edge (image row (patternFrom b j)) (image row (patternTo b j)) ≡ true
+-- ---- the parts of the rule, for any test of a node's image and of the images of an edge's ends
+abbrev pub tested : (ℕ → ℕ → Bool) → (ℕ → ℕ → ℕ → Bool) → List ℕ → List ℕ → Bool
+tested may has b row =
+    eqb (length row) (sizeOf b) && allFrom (λ u. may u (image row u)) 0 (sizeOf b)
+    && allFrom (alone row) 0 (sizeOf b)
+    && allFrom (λ j. has j (image row (patternFrom b j)) (image row (patternTo b j))) 0 (edgesOf b)
 
-module _ (g : Graph) (b row : List ℕ) where
+pub record Tested (may : ℕ → ℕ → Bool) (has : ℕ → ℕ → ℕ → Bool) (b row : List ℕ) : Type 0 where
+  pub size : length row ≡ sizeOf b
+  pub node : (u : ℕ) → u < sizeOf b → may u (image row u) ≡ true
+  pub own : (u : ℕ) → u < sizeOf b → alone row u ≡ true
+  pub edge : (j : ℕ) → j < edgesOf b → has j (image row (patternFrom b j)) (image row (patternTo b j)) ≡ true
+
+module _ (may : ℕ → ℕ → Bool) (has : ℕ → ℕ → ℕ → Bool) (b row : List ℕ) where
   abbrev long : Bool
   long = eqb (length row) (sizeOf b)
 
-  abbrev suited : Bool
-  suited = allFrom (λ u. suits g b u (image row u)) 0 (sizeOf b)
+  abbrev noded : Bool
+  noded = allFrom (λ u. may u (image row u)) 0 (sizeOf b)
 
   abbrev owned : Bool
   owned = allFrom (alone row) 0 (sizeOf b)
 
   abbrev edged : Bool
-  edged = allFrom (λ j. g .edge (image row (patternFrom b j)) (image row (patternTo b j))) 0 (edgesOf b)
+  edged = allFrom (λ j. has j (image row (patternFrom b j)) (image row (patternTo b j))) 0 (edgesOf b)
 
+  pub tested-says : tested may has b row ≡ true → Tested may has b row
+  tested-says h =
+      let three : (long && noded && owned) ≡ true = first-holds (long && noded && owned) edged h in
+      let two : (long && noded) ≡ true = first-holds (long && noded) owned three in
+      record {
+        size = eqb-true (length row) (sizeOf b) (first-holds long noded two);
+        node = λ u l. all-each (λ u. may u (image row u)) 0 (sizeOf b) (second-holds long noded two) u (omega arith) (omega arith);
+        own = λ u l. all-each (alone row) 0 (sizeOf b) (second-holds (long && noded) owned three) u (omega arith) (omega arith);
+        edge = λ j l. all-each (λ j. has j (image row (patternFrom b j)) (image row (patternTo b j))) 0 (edgesOf b)
+            (second-holds (long && noded && owned) edged h) j (omega arith) (omega arith);
+      }
+
+  pub says-tested : Tested may has b row → tested may has b row ≡ true
+  says-tested m =
+      let a : long ≡ true = eq-eqb (length row) (sizeOf b) (m .size) in
+      let c : noded ≡ true = each-all (λ u. may u (image row u)) 0 (sizeOf b) (λ u k l. m .node u (omega arith)) in
+      let d : owned ≡ true = each-all (alone row) 0 (sizeOf b) (λ u k l. m .own u (omega arith)) in
+      let e : edged ≡ true =
+      each-all (λ j. has j (image row (patternFrom b j)) (image row (patternTo b j))) 0 (edgesOf b) (λ j k l. m .edge j (omega arith)) in
+      rw (a, c, d, e)
+
+-- ---- a match
+abbrev pub Matched : Graph → List ℕ → List ℕ → Type 0
+Matched g b row = Tested (suits g b) (λ j. g .edge) b row
+
+module _ (g : Graph) (b row : List ℕ) where
   pub match-says : isMatch g b row ≡ true → Matched g b row
   unfolding isMatch
-  match-says h =
-      let three : (long && suited && owned) ≡ true = first-holds (long && suited && owned) edged h in
-      let two : (long && suited) ≡ true = first-holds (long && suited) owned three in
-      record {
-        size = eqb-true (length row) (sizeOf b) (first-holds long suited two);
-        node = λ u l. all-each (λ u. suits g b u (image row u)) 0 (sizeOf b) (second-holds long suited two) u (omega arith) (omega arith);
-        own = λ u l. all-each (alone row) 0 (sizeOf b) (second-holds (long && suited) owned three) u (omega arith) (omega arith);
-        edge = λ j l. all-each (λ j. g .edge (image row (patternFrom b j)) (image row (patternTo b j))) 0 (edgesOf b)
-            (second-holds (long && suited && owned) edged h) j (omega arith) (omega arith);
-      }
+  match-says h = tested-says (suits g b) (λ j. g .edge) b row h
 
   pub says-match : Matched g b row → isMatch g b row ≡ true
   unfolding isMatch
-  says-match m =
-      let a : long ≡ true = eq-eqb (length row) (sizeOf b) (m .size) in
-      let c : suited ≡ true = each-all (λ u. suits g b u (image row u)) 0 (sizeOf b) (λ u k l. m .node u (omega arith)) in
-      let d : owned ≡ true = each-all (alone row) 0 (sizeOf b) (λ u k l. m .own u (omega arith)) in
-      let e : edged ≡ true =
-      each-all (λ j. g .edge (image row (patternFrom b j)) (image row (patternTo b j))) 0 (edgesOf b) (λ j k l. m .edge j (omega arith)) in
-      rw (a, c, d, e)
+  says-match m = says-tested (suits g b) (λ j. g .edge) b row m
 
   -- a pattern edge is an edge between the images
   edge-image : Matched g b row → (x y : ℕ) → patternEdge b x y ≡ true → g .edge (image row x) (image row y) ≡ true
