@@ -31,4 +31,5 @@ pub mod Ordered
 pub mod Within
 pub mod ReadAlike
 pub mod Counting
+pub mod Named
 pub mod Lenient

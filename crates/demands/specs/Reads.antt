@@ -1,10 +1,12 @@
 -- The lists that listing reads, and what it is for two readers to be alike in them. Nothing is proved here.
 use mathlib.Core.Path.{_≡_}
 use mathlib.Core.Bool.{true, false}
-use mathlib.Core.List.{List, [], _∷_, _++_}
+use mathlib.Core.List.{List, [], _∷_, _++_, map, flatMap}
 use mathlib.Core.Option.{Option, some, none}
 use Prim.Native.Nat.{ℕ}
 use lib.Dec.{eqb}
+use lib.ListN.{length}
+use Rattle.rules.specs.Lists.{sum}
 use Rattle.rules.specs.Store.{nodePart, constraintPart, groupPart, entryPart}
 use Rattle.rules.specs.Plan.{rowsOf}
 use Rattle.rules.specs.Listing.{Reader, Gathered, readerOf, nothing, keysFrom, withRow}
@@ -12,12 +14,6 @@ use Rattle.laws.specs.Outcomes.{listRefusal}
 use Rattle.rules.specs.declared.Row.{Row}
 use Rattle.rules.specs.declared.Entry.{Entry}
 use Rattle.laws.specs.Every.{Every}
-use mathlib.Core.Path.{_≡_}
-use mathlib.Core.Bool.{true, false}
-use mathlib.Core.List.{List, [], _∷_, _++_, map}
-use Prim.Native.Nat.{ℕ}
-use lib.ListN.{length}
-use Rattle.rules.specs.Lists.{sum}
 
 -- ---- what listing reads
 -- a list that is read: its constraint and its key
@@ -47,6 +43,10 @@ storeReads s b = listsRead (storeReader s) b (rowsOf (constraintPart s) b) (noth
 -- the lists that the listing call reads: these, and none where it is refused with 1, 3, 6, 7, 8 or 9
 unfoldable pub callReads : List ℕ → List ℕ → List ℕ → List ListRead
 callReads s b work = elim (eqb (listRefusal s b work) 0) [ true ↦ storeReads s b | false ↦ [] ]
+
+-- the lists that the rule names for what has been gathered: for each row of the plan, every key from the candidates of its chosen nodes
+unfoldable pub listsNamed : List ℕ → List ℕ → Gathered → List ListRead
+listsNamed constraints b got = flatMap (λ row. map (λ key. record { constraint = row .constraint; key = key }) (keysFrom got row)) (rowsOf constraints b)
 
 -- ---- alike
 -- the entries of a list, none where it is unfit
