@@ -202,7 +202,7 @@ module _ (s : List ℕ) (sound : Sound s) where
   constraints-few : constraintsIn (constraintPart s) ≤ mostConstraints
   constraints-few = omega (arith, constraints-in s (sound .right), limits .constraints)
 
-  index-fits : Fits (storeIndex s)
+  pub index-fits : Fits (storeIndex s)
   unfolding storeIndex storeGraph graphOf
   index-fits = record {
     words = index-words (storeGraph s) (constraintPart s) nodes-few constraints-few;

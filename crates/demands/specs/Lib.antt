@@ -30,6 +30,7 @@ pub mod Exact
 pub mod Ordered
 pub mod Within
 pub mod ReadAlike
+pub mod InBytes
 pub mod Counting
 pub mod Named
 pub mod Lenient

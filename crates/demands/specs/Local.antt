@@ -10,10 +10,11 @@ use Rattle.rules.specs.Plan.{rowsOf, bound}
 use Rattle.rules.specs.Listing.{nothing, withRows}
 use Rattle.rules.specs.Answers.{gathered, admitNumber, listOutcome}
 use Rattle.laws.specs.Outcomes.{refused, readOutcome, listRefusal}
-use Rattle.laws.specs.Every.{Every}
+use Rattle.laws.specs.Every.{Every, every-more}
 use Rattle.demands.specs.Numbers.{admitted-sound}
 use Rattle.demands.specs.Answered.{gatheredOf, list-heard, list-refused}
-use Rattle.demands.specs.Reads.{ListRead, storeReader, listsRead, storeReads, callReads, AlikeIn}
+use Rattle.demands.specs.Reads.{ListRead, storeReader, listsRead, storeReads, callReads, AlikeIn, SameBytes}
+use Rattle.demands.specs.InBytes.{bytes-alike}
 use Rattle.demands.specs.ReadAlike.{rows-alike}
 
 -- ---- two stores with equal constraint sections whose headers are both right or both wrong, alike in each list that listing reads in the first
@@ -62,6 +63,14 @@ pub admitted-local : (s t b work room : List ℕ) → admitNumber s ≡ 0 → ad
 admitted-local s t b work room ps pt same alike =
     let right : headerRight s ≡ headerRight t = admitted-sound s ps .right ∙ sym (admitted-sound t pt .right) in
     (listing-local s t b work right same alike room, reads-local s t b work right same alike)
+
+-- The same in bytes. Let s and t be two admitted stores with equal constraint sections, such that for each list that listing b in s reads the two have the same bytes of the list, and the same 8-byte record of each node that it names. Then listing b in the same rooms has one outcome in both, and reads the same lists in both.
+pub admitted-local-bytes : (s t b work room : List ℕ) → admitNumber s ≡ 0 → admitNumber t ≡ 0 → constraintPart s ≡ constraintPart t
+    → Every (SameBytes s t) (callReads s b work)
+    → (listOutcome s b work room ≡ listOutcome t b work room) × (callReads s b work ≡ callReads t b work)
+admitted-local-bytes s t b work room ps pt same alike =
+    admitted-local s t b work room ps pt same
+    (every-more (SameBytes s t) (AlikeIn (storeReader s) (storeReader t)) (bytes-alike s t (admitted-sound s ps) (admitted-sound t pt)) (callReads s b work) alike)
 
 -- What holds of each list that the rows of the plan read holds of each that the call reads, whatever the working room.
 pub call-reads : (P : ListRead → Type 0) (s b work : List ℕ) → Every P (storeReads s b) → Every P (callReads s b work)

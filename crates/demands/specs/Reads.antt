@@ -3,16 +3,19 @@ use mathlib.Core.Path.{_≡_}
 use mathlib.Core.Bool.{true, false}
 use mathlib.Core.List.{List, [], _∷_, _++_, map, flatMap}
 use mathlib.Core.Option.{Option, some, none}
-use Prim.Native.Nat.{ℕ}
+use Prim.Native.Nat.{ℕ, _+_, _*_, _/_}
 use lib.Dec.{eqb}
 use lib.ListN.{length}
+use Rattle.rules.specs.Words.{part}
 use Rattle.rules.specs.Lists.{sum}
 use Rattle.rules.specs.Store.{nodePart, constraintPart, groupPart, entryPart}
 use Rattle.rules.specs.Plan.{rowsOf}
-use Rattle.rules.specs.Listing.{Reader, Gathered, readerOf, nothing, keysFrom, withRow}
+use Rattle.rules.specs.Listing.{keyOf, found, listPart, entryList, Reader, Gathered, readerOf, nothing, keysFrom, withRow}
 use Rattle.laws.specs.Outcomes.{listRefusal}
 use Rattle.rules.specs.declared.Row.{Row}
 use Rattle.rules.specs.declared.Entry.{Entry}
+use Rattle.rules.specs.declared.Found.{Found}
+use Rattle.rules.specs.declared.Found.the-variants.{At, Nothing}
 use Rattle.laws.specs.Every.{Every}
 
 -- ---- what listing reads
@@ -66,3 +69,25 @@ entriesOfReads r xs = sum (map (entriesOfRead r) xs)
 pub record AlikeIn (r q : Reader) (x : ListRead) : Type 0 where
   pub list : r .list (x .constraint) (x .key) ≡ q .list (x .constraint) (x .key)
   pub values : Every (λ e. r .value (e .node) ≡ q .value (e .node)) (named (r .list (x .constraint) (x .key)))
+
+-- ---- alike in bytes
+-- the bytes of a list: the part of the entries that its key's group names, none where the key has no group
+unfoldable pub foundBytes : List ℕ → Found → List ℕ
+foundBytes entries (At start count) = listPart entries start count
+foundBytes entries Nothing = []
+
+abbrev pub bytesRead : List ℕ → ListRead → List ℕ
+bytesRead s x = foundBytes (entryPart s) (found (groupPart s) (keyOf (x .constraint) (x .key)))
+
+-- the entries that stand in the bytes of a list, 8 bytes each
+abbrev pub entriesWithin : List ℕ → List Entry
+entriesWithin bytes = entryList bytes (length bytes / 8)
+
+-- the 8-byte record of node v
+abbrev pub nodeRecord : List ℕ → ℕ → List ℕ
+nodeRecord s v = part (nodePart s) (v * 8) (v * 8 + 8)
+
+-- two stores have the same bytes of a list, and the same records of the nodes that it names
+pub record SameBytes (s t : List ℕ) (x : ListRead) : Type 0 where
+  pub bytes : bytesRead s x ≡ bytesRead t x
+  pub records : Every (λ e. nodeRecord s (e .node) ≡ nodeRecord t (e .node)) (entriesWithin (bytesRead s x))
