@@ -1,2 +1,3 @@
 -- What the contracts of the C boundary cite beside the rules. Assumes nothing.
 pub mod Boundary
+pub mod Demanded
