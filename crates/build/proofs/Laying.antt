@@ -1,13 +1,13 @@
 -- What arranging the edges of a right store needs and gives, and what too many entries say. Assumes nothing.
 use native.Mathlib.Omega.{arith}
-use native.Mathlib.Decide.{ℕ-discrete}
+use native.Mathlib.Decide.{ℕ-discrete, decLe}
 use mathlib.Core.Path.{_≡_, refl, sym, ap, _∙_}
 use mathlib.Core.Bool.{Bool, true, false, _||_, false≢true, or-true}
 use mathlib.Core.List.{List, _++_, map}
 use Prim.Native.Nat.{ℕ, zero, suc, _+_, _%_, _≤_, _<_}
 use lib.Dec.{ltb}
 use lib.ListN.{length, take, replicate, length-take, length-replicate}
-use borrow.Author.Tests.{ne-eqb, lt-ltb, ltb-true}
+use borrow.Author.Tests.{ne-eqb, lt-ltb}
 use Rattle.rules.specs.Lists.{range, has, setOf}
 use Rattle.laws.specs.Strict.{Strict}
 use Rattle.rules.specs.Store.{mostEntries, mostGroups, mostNodes, nodePart, edgePart, nodesIn, edgesIn}
@@ -21,6 +21,7 @@ use Rattle.build_edges.specs.Starts.{Climbs}
 use Rattle.build_edges.specs.Sound.{joinedSet}
 use Rattle.build_neighbours.specs.Side.{Arranged}
 use Rattle.build_keys.specs.Pass.{Right, AtHand, Laid}
+use Rattle.build_totals.specs.Total.{Entries}
 use Rattle.build_keys.proofs.Index.{both-ends, right-sound}
 use Rattle.build.proofs.Numbers.{gives-four, gives-eleven}
 
@@ -93,8 +94,12 @@ pub front-short : (r n a : ℕ) (l : List ℕ) → length l ≡ length (replicat
 front-short r n a l e = let k : length l ≡ n = e ∙ length-replicate n a in simp length-take (omega arith)
 
 -- ---- too many entries
-pub total-over : (r n : ℕ) → ltb mostEntries r ≡ ltb mostEntries n → mostEntries < r → mostEntries < n
-total-over r n e h = ltb-true mostEntries n (sym e ∙ lt-ltb mostEntries r h)
+pub total-over : {r n : ℕ} → Entries r n → mostEntries < r → mostEntries < n
+total-over {r} {n} e h = go (decLe n mostEntries)
+  where
+    go : Dec (n ≤ mostEntries) → mostEntries < n
+    go (yes k) = let q = e .exact k in absurd (omega arith)
+    go (no k) = omega arith
 
 module _ {s : List ℕ} (right : Right s) (over : mostEntries < entryTotal (storeIndex s)) where
   many : true ≡ tooMany s

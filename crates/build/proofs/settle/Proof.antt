@@ -9,7 +9,7 @@ total-requires : tie.Need-total-requires
 total-requires c κs = c .before .before .before .pre
 
 returns : tie.Need-returns
-returns c = record { over = λ z. total-over _ _ (c .before .total .ensures) (c .if1 .taken); hand = λ z. c .before .before .before .before .before .pre; laid = λ z. absurd (true≢false z) }
+returns c = record { over = λ z. total-over (c .before .total .ensures) (c .if1 .taken); hand = λ z. c .before .before .before .before .before .pre; laid = λ z. absurd (true≢false z) }
 
 lay-requires : tie.Need-lay-requires
 lay-requires c κs = c .before .before .before .before .before .before .pre
