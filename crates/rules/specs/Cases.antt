@@ -1,7 +1,7 @@
 -- The small world and 01's starred cases, computed: one table over the outcome definitions. Each line is refused if a definition slips. Assumes nothing.
 use Prim.Native.Nat.{ℕ}
 use mathlib.Core.Path.{_≡_, refl}
-use mathlib.Core.Bool.{true, false}
+use mathlib.Core.Bool.{true, false, _||_}
 use mathlib.Core.List.{List, [], _∷_, _++_, flatMap}
 use lib.ListN.{length, take, replicate}
 use Rattle.rules.specs.Words.{u16At, u32At, encoded, over, signed}
@@ -96,7 +96,7 @@ list-A : listOutcome worldStore patternA (nines 78) (nines 6)
 unfolding computes
 list-A = refl
 
--- the row is a match by the match rule alone, and no other row that begins so is
+-- the row is a match by the match rule alone, and with the other field it is none
 match-A : isMatch (storeGraph worldStore) patternA (1 ∷ 3 ∷ 5 ∷ 4 ∷ []) ≡ true
 unfolding computes
 match-A = refl
@@ -175,10 +175,14 @@ list-without-third : listOutcome withoutThird patternA (nines 76) (nines 4) ≡ 
 unfolding computes withoutThird
 list-without-third = refl
 
--- a pattern with few matches, none since its conditions clash, is refused with 7 all the same
+-- a pattern whose conditions clash, so that neither field is a match, is refused with 7 all the same
 plan-clashing : planOutcome worldStore clashing (nines 8) ≡ gives 7 (0 ∷ []) (nines 8) []
 unfolding computes
 plan-clashing = refl
+
+no-match-clashing : isMatch (storeGraph worldStore) clashing (5 ∷ []) || isMatch (storeGraph worldStore) clashing (6 ∷ []) ≡ false
+unfolding computes
+no-match-clashing = refl
 
 -- ---- *two unjoined nodes, N 32,768 each: T 65,536; *32,768 and 32,769: 8
 unfoldable wide : ℕ → List ℕ
@@ -194,6 +198,15 @@ plan-above : planOutcome (wide 32769) unjoined (nines 16) ≡ gives 8 (0 ∷ [])
 unfolding computes wide
 plan-above = refl
 
+-- listing refuses the second alike; the first it does not, but for the working room
+list-above : listOutcome (wide 32769) unjoined (nines 3) (nines 2) ≡ gives 8 (0 ∷ 0 ∷ 0 ∷ 0 ∷ []) (nines 2) (nines 3)
+unfolding computes wide
+list-above = refl
+
+list-unjoined : listOutcome (wide 32768) unjoined (nines 3) (nines 2) ≡ gives 9 (0 ∷ 0 ∷ 0 ∷ 0 ∷ []) (nines 2) (nines 3)
+unfolding computes wide
+list-unjoined = refl
+
 -- ---- *∅→(1,1), ∅→(2,1), ∅→(4,3), {1,2}→(4,2); nodes locale, format, field; only edge field→format: 7
 unfoldable pairOnly : List ℕ
 pairOnly = draft [] [] (constraint 0 0 0 1 1 ∷ constraint 0 0 0 2 1 ∷ constraint 0 0 0 4 3 ∷ constraint 1 2 0 4 2 ∷ [])
@@ -201,6 +214,10 @@ pairOnly = draft [] [] (constraint 0 0 0 1 1 ∷ constraint 0 0 0 2 1 ∷ constr
 plan-field-only : planOutcome pairOnly fieldOnly (nines 32) ≡ gives 7 (0 ∷ []) (nines 32) []
 unfolding computes pairOnly
 plan-field-only = refl
+
+list-field-only : listOutcome pairOnly fieldOnly (nines 32) (nines 3) ≡ gives 7 (0 ∷ 0 ∷ 0 ∷ 0 ∷ []) (nines 3) (nines 32)
+unfolding computes pairOnly
+list-field-only = refl
 
 -- ---- ties: of two ways with one figure the lower constraint, and of two with one constraint the lower chosen node
 unfoldable tied : List ℕ
@@ -244,6 +261,6 @@ unfolding computes
 build-nothing = refl
 
 -- a store whose one list of fields for format 3 has lost its direction bits: 5, and the working words are cleared
-list-unfit : listOutcome (over worldStore 408 (6 ∷ 0 ∷ 0 ∷ 0 ∷ 0 ∷ [])) patternA (nines 77) (nines 4) ≡ gives 5 (0 ∷ 0 ∷ 0 ∷ 0 ∷ []) (nines 4) (zeros 76 ++ nines 1)
+list-unfit : listOutcome (over worldStore 412 (0 ∷ [])) patternA (nines 77) (nines 4) ≡ gives 5 (0 ∷ 0 ∷ 0 ∷ 0 ∷ []) (nines 4) (zeros 76 ++ nines 1)
 unfolding computes
 list-unfit = refl
