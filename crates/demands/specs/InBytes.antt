@@ -4,7 +4,7 @@ use mathlib.Core.Path.{_≡_, refl, sym, ap, _∙_}
 use mathlib.Core.Bool.{Bool, true, false, cond, _&&_}
 use mathlib.Core.List.{List, [], _∷_, map}
 use mathlib.Core.Option.{Option, some, none}
-use Prim.Native.Nat.{ℕ, zero, suc, _+_, _*_, _/_, _≤_, _<_}
+use Prim.Native.Nat.{ℕ, _+_, _*_, _/_, _≤_, _<_}
 use lib.Dec.{eqb, ltb}
 use lib.ListN.{length, getD}
 use borrow.Author.Tests.{eqb-true, ltb-true, leb-true}
@@ -18,8 +18,8 @@ use Rattle.rules.specs.declared.Constraint.{Constraint}
 use Rattle.rules.specs.declared.Entry.{Entry}
 use Rattle.rules.specs.declared.Found.{Found}
 use Rattle.rules.specs.declared.Found.the-variants.{At, Nothing}
-use Rattle.laws.specs.Cases.{first-holds, second-holds}
-use Rattle.laws.specs.Every.{Every, every-more, every-map, every-flat, every-kept, every-range}
+use Rattle.laws.specs.Cases.{first-holds, second-holds, never-some}
+use Rattle.laws.specs.Every.{Every, every-more, every-map, every-flat, every-kept, every-range, every-at}
 use Rattle.laws.specs.Beside.{Beside, beside-length, beside-at}
 use Rattle.laws.specs.Choices.{choices-beside}
 use Rattle.laws.specs.KeyLists.{IsKey, labelled-has}
@@ -29,7 +29,6 @@ use Rattle.laws.specs.Lookup.{groups-counted}
 use Rattle.laws.specs.Parts.{length-part, u32-part}
 use Rattle.demands.specs.Numbers.{Sound}
 use Rattle.demands.specs.Index.{group-part, index-fits, sound-faithful}
-use Rattle.demands.specs.Named.{never-some}
 use Rattle.demands.specs.Reads.{ListRead, storeReader, named, AlikeIn, foundBytes, bytesRead, entriesWithin, nodeRecord, SameBytes}
 
 -- ---- the groups of an index are groups of keys
@@ -60,12 +59,6 @@ index-keys g constraints =
     (every-map (OfKey g constraints) (IsKey g (constraintAt constraints c)) (groupOf g (constraintAt constraints c) c) (λ ids k. record { below = l; key = k })
     (keysOf g (constraintAt constraints c)) (keys-are g (constraintAt constraints c))))
     (range 0 (constraintsIn constraints)) (every-range (constraintsIn constraints) 0 (constraintsIn constraints) (omega arith))
-
-every-at : {A : Type 0} (P : A → Type 0) (xs : List A) (i : ℕ) (d : A) → Every P xs → i < length xs → P (getD xs i d)
-unfolding Every
-every-at P [] i d h l = absurd (omega arith)
-every-at P (x ∷ xs) zero d h l = h .0
-every-at P (x ∷ xs) (suc i) d h l = every-at P xs i d (h .1) (omega arith)
 
 -- ---- any list that is found is fit
 -- what a found list says

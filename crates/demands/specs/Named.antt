@@ -14,7 +14,8 @@ use Rattle.rules.specs.Plan.{chosenOf, noFigures, covered, smallest, allWays, f
 use Rattle.rules.specs.Listing.{Reader, Read, Gathered, readKeys, keysFrom, withNode, withEdge, withRow, withRows}
 use Rattle.rules.specs.declared.Row.{Row}
 use Rattle.rules.specs.declared.Entry.{Entry}
-use Rattle.laws.specs.Every.{Every, every-append, every-more, every-flat, every-range, every-member}
+use Rattle.laws.specs.Every.{Every, every-append, every-more, every-flat, every-range, every-member, map-alike}
+use Rattle.laws.specs.Cases.{never-some}
 use Rattle.laws.specs.Beside.{beside-every}
 use Rattle.laws.specs.Covering.{rows-next, rows-stop, rows-zero, next-says, covered-other}
 use Rattle.laws.specs.PatternLaws.{RightPattern}
@@ -101,14 +102,6 @@ module _ (constraints : List ℕ) {b : List ℕ} (right : RightPattern b) where
   all-settled = nodes-settled (edgeRows constraints b) (edges-leave (edgeRows constraints b) edge-rows) (edges-settled (edgeRows constraints b) edge-rows) (sizeOf b) noFigures
 
 -- ---- what rows change
-pub never-some : {A : Type 0} {x : A} → _≡_ {A = Option A} none (some x) → ⊥
-never-some k = let z : _≡_ {A = ℕ} 0 1 = cc in omega arith
-
-map-alike : {A B : Type 0} (f g : A → B) (xs : List A) → Every (λ x. f x ≡ g x) xs → map f xs ≡ map g xs
-unfolding Every
-map-alike f g [] h = refl
-map-alike f g (x ∷ xs) h = rw (h .0, map-alike f g xs (h .1))
-
 module _ (r : Reader) (b : List ℕ) where
   abbrev after : Gathered → Row → Option (List Read) → Option Gathered
   after got row o = elim o [ none ↦ none | some reads ↦ some (cond (eqb (row .kind) 0) (withNode r b got row reads) (withEdge b got row reads)) ]
