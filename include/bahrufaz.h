@@ -117,7 +117,7 @@ enum bahrufaz_list_result {
     BAHRUFAZ_LIST_NODE_ENTRIES = 1, /* read for node rows */
     BAHRUFAZ_LIST_EDGE_ENTRIES = 2, /* read for edge rows */
     BAHRUFAZ_LIST_BOUND = 3,        /* T */
-    BAHRUFAZ_LIST_MATCHES_UPPER = 4 /* the upper 32 bits */
+    BAHRUFAZ_LIST_MATCHES_UPPER = 7 /* the upper 32 bits */
 };
 
 /* How many matches listing told. */

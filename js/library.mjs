@@ -4,7 +4,7 @@ import { ANSWERED, refusal } from './numbers.mjs';
 
 export const RESULT_WORDS = 8;
 /** Where listing has the upper half of the number of matches. */
-export const UPPER_MATCHES = 4;
+export const UPPER_MATCHES = 7;
 export const PLAN_WORDS = 512; // always enough for the rows of a plan
 export const ROW_WORDS = 8;
 export const MOST_ROOM_WORDS = 1 << 25; // 128 MiB

@@ -25,7 +25,7 @@ PLAN_WORDS = 512  # always enough for the rows of a plan
 ROW_WORDS = 8
 FIRST_ROOM_WORDS = 1 << 16
 MOST_ROOM_WORDS = 1 << 28  # 1 GiB
-UPPER_MATCHES = 4  # the result of listing that has the upper 32 bits of the number of matches
+UPPER_MATCHES = 7  # the result of listing that has the upper 32 bits of the number of matches
 
 _Word = ctypes.c_uint32
 _Results = _Word * 8

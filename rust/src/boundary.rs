@@ -45,4 +45,4 @@ pub const PLAN_ROW: usize = 8;
 /// What stands for a chosen node that there is not.
 pub const NO_CHOSEN: u32 = 255;
 /// The result of listing that has the upper 32 bits of the matches.
-pub const MATCHES_UPPER: usize = 4;
+pub const MATCHES_UPPER: usize = 7;
