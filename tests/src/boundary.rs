@@ -67,31 +67,33 @@ fn to_bytes(words: &[u32]) -> Vec<u8> {
 /// The outcome of a call by the second reading.
 pub fn expected(call: Call, case: &Case) -> Outcome {
     let (mut work, mut room) = (Vec::new(), Vec::new());
-    let told: Vec<u32> = match call {
+    let (number, results) = match call {
         Call::Build => {
             room = case.room_bytes();
             let Built { number, length } = reading::build(&case.store, &mut room);
-            vec![number, length]
+            (number, [length, 0, 0, 0, 0, 0, 0, 0])
         }
-        Call::Admit => vec![reading::admit(&case.store)],
+        Call::Admit => (reading::admit(&case.store), [0; 8]),
         Call::Plan => {
             let mut words = case.room_words();
             let Planned { number, bound } = reading::plan(&case.store, &case.pattern, &mut words);
             room = to_bytes(&words);
-            vec![number, bound]
+            (number, [bound, 0, 0, 0, 0, 0, 0, 0])
         }
         Call::List => {
             let (mut before, mut words) = (case.work_words(), case.room_words());
-            let Listed { number, matches, node_entries, edge_entries, bound } =
-                reading::list(&case.store, &case.pattern, &mut before, &mut words);
+            let listed = reading::list(&case.store, &case.pattern, &mut before, &mut words);
             (work, room) = (to_bytes(&before), to_bytes(&words));
-            let matches = u32::try_from(matches).expect("rows that fit in a room");
-            vec![number, matches, node_entries, edge_entries, bound]
+            (listed.number, list_results(&listed))
         }
     };
-    let mut results = [0; 8];
-    results[..told.len() - 1].copy_from_slice(&told[1..]);
-    Outcome { number: told[0], results, work, room }
+    Outcome { number, results, work, room }
+}
+
+/// Listing's results; the upper half of the matches stands last.
+fn list_results(listed: &Listed) -> [u32; 8] {
+    let &Listed { number: _, matches, node_entries, edge_entries, bound } = listed;
+    [matches as u32, node_entries, edge_entries, bound, 0, 0, 0, (matches >> 32) as u32]
 }
 
 /// How often each number was given.
@@ -229,4 +231,17 @@ fn read_outcome(from: &mut impl Read, call: Call, case: &Case) -> io::Result<(Ou
     let results = words[1..9].try_into().expect("8 results");
     let time = Duration::from_nanos(u64::from(words[10]) << 32 | u64::from(words[9]));
     Ok((Outcome { number: words[0], results, work, room }, time))
+}
+
+#[cfg(test)]
+mod tests {
+    use super::*;
+
+    /// No room of a test holds so many rows, so the comparison alone would not tell.
+    #[test]
+    fn both_halves_of_the_matches() {
+        let matches = 7 << 32 | 5;
+        let listed = Listed { number: 0, matches, node_entries: 1, edge_entries: 2, bound: 3 };
+        assert_eq!(list_results(&listed), [5, 1, 2, 3, 0, 0, 0, 7]);
+    }
 }
