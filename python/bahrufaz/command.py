@@ -104,17 +104,23 @@ def _check_streams(asked: argparse.Namespace) -> None:
 
 
 def complain(message: str) -> None:
-    for line in visible_lines(message).split("\n"):
-        print(f"bahrufaz: {line}", file=sys.stderr)
+    _tell(f"bahrufaz: {line}" for line in visible_lines(message).split("\n"))
+
+
+def _tell(lines: Iterable[str]) -> None:
+    """Says lines on standard error; where nobody can hear them, they are not said."""
+    try:
+        sys.stderr.writelines(f"{line}\n" for line in lines)
+        sys.stderr.flush()
+    except OSError:
+        sys.stderr = open(os.devnull, "w", encoding="utf-8")
 
 
 def _tell_refusal(refused: Refused, as_json: bool) -> None:
     if as_json:
         emit(tables.refusal_json(refused))
     complain(str(refused))
-    for line in visible_lines(f"{refused.detail}\n{refused.advice}").split("\n"):
-        if line:
-            print(f"  {line}", file=sys.stderr)
+    _tell(f"  {line}" for line in visible_lines(f"{refused.detail}\n{refused.advice}").split("\n") if line)
 
 
 def emit(lines: Iterable[str]) -> None:

@@ -3,7 +3,6 @@
 from __future__ import annotations
 
 import contextlib
-import io
 import json
 import re
 from typing import Callable, Iterable, Iterator, Mapping, NamedTuple, TypeVar
@@ -26,6 +25,7 @@ _TOKEN = re.compile(
 _SIGNS = {"→": "->", "≤": "<=", "≥": ">="}
 _DIGITS = 20  # so many are beyond every range, however many follow
 _MOST_MISTAKES = 1_000
+_PART = 1 << 20
 _Target = TypeVar("_Target")
 
 
@@ -145,9 +145,14 @@ class Mistakes:
 
 
 def numbered_lines(text: str) -> Iterator[tuple[int, str]]:
-    """The lines of a text one by one, never all of them at once."""
-    for number, line in enumerate(io.StringIO(text), 1):
-        yield number, line[:-1] if line[-1] == "\n" else line
+    """The lines of a text one by one; they are cut out a part at a time, and never stand all in memory."""
+    at, number = 0, 1
+    while at <= len(text):
+        end = text.find("\n", at + _PART)
+        end = len(text) if end < 0 else end
+        part = text[at:end].split("\n")
+        yield from enumerate(part, number)
+        at, number = end + 1, number + len(part)
 
 
 def sorted_lines(

@@ -8,6 +8,7 @@ from unittest import mock
 
 from bahrufaz import Graph, Names, Pattern, Store, WrongGraph, WrongName, WrongText, feed
 from bahrufaz.files import write_whole
+from bahrufaz.lines import numbered_lines
 from bahrufaz.namesfile import names_path, names_text, read_names
 from bahrufaz.text import aligned, spelled
 
@@ -229,6 +230,11 @@ class FeedErrors(unittest.TestCase):
             Graph.of_text("node a 1\nno nodes", "w")
         with self.assertRaisesRegex(WrongText, "w:1: expected nodes, found 'edges'"):
             Graph.of_text("no edges", "w")
+
+    def test_line_numbers_of_long_texts(self):
+        with mock.patch("bahrufaz.lines._PART", 7):
+            for text in ("", "a", "a\n", "\n\n\n", "ab\ncdefghij\n\nk\nlmnopq\nr\n", "x" * 30, "x\n" * 30):
+                self.assertEqual(list(numbered_lines(text)), list(enumerate(text.split("\n"), 1)))
 
     def test_any_line_ends(self):
         text = (EXAMPLES / "small" / "world.feed").read_text(encoding="utf-8")
