@@ -63,9 +63,8 @@ class Line:
         """Two words where one is expected: perhaps a name with a blank in it."""
         at = 2 if self._at == 3 and self._tokens[0].text == "node" else self._at
         words = self._tokens[max(at - 1, 1) : at + 1]
-        if len(words) < 2 or any(word.kind != "word" or word.number is not None for word in words):
-            return ""
-        if self.next_text() in _KEYWORDS:
+        plain = [word.kind == "word" and word.number is None for word in [*words, self.peek()] if word]
+        if len(plain) < 3 or not all(plain) or not self.next_text()[0].isalnum() or self.next_text() in _KEYWORDS:
             return ""
         return f"; a name with a blank in it is quoted, as {shortened(spelled(' '.join(word.text for word in words)))}"
 
@@ -156,9 +155,10 @@ def numbered_lines(text: str) -> Iterator[tuple[int, str]]:
 
 
 def sorted_lines(
-    text: str, kinds: Mapping[str, int], what: str, mistakes: Mistakes
+    text: str, kinds: Mapping[str, int], what: str, mistakes: Mistakes, of: str
 ) -> dict[str, list[tuple[int, str]]]:
-    """The lines that say something, numbered, by their kinds, which are their first words: so many at most of each."""
+    """The lines that say something, numbered, by their kinds, which are their first words: as many at most of each
+    as that which the text is of can have."""
     found: dict[str, list[tuple[int, str]]] = {kind: [] for kind in kinds}
     for number, line in numbered_lines(text):
         words = line.split(None, 1)
@@ -173,7 +173,7 @@ def sorted_lines(
                 continue
         found[kind].append((number, line))
         if len(found[kind]) > kinds[kind]:
-            mistakes.add(number, f"there are at most {kinds[kind]:,} {kind} lines")
+            mistakes.add(number, f"{of} has at most {kinds[kind]:,} {kind}s")
             mistakes.tell()
     return found
 
