@@ -19,7 +19,7 @@ _EDGE = re.compile(rf"\s*edge\s+({NAME})\s+(?:->|→)\s+({NAME})\s*(?:#.*)?")
 _MOST_LINES = {
     "label": MAX_LABEL,
     "node": MAX_NODES,
-    "no": 1,
+    "no": MAX_NODES,
     "edge": MAX_EDGES,
     "constraint": MAX_CONSTRAINTS,
 }
@@ -45,7 +45,7 @@ class Fed(Protocol):
 def fill(graph: Fed, text: str, file: str) -> None:
     """Puts a text into an empty graph; labels, nodes, edges and constraints may stand in any order."""
     mistakes = Mistakes(file)
-    lines = sorted_lines(text, _MOST_LINES, "label, node, edge or constraint", mistakes)
+    lines = sorted_lines(text, _MOST_LINES, "label, node, edge or constraint", mistakes, "a store")
     take_lines(lines["label"], _label_line, graph, mistakes, _stand_in_label)
     take_lines(_unusual(lines["node"], _quick_node, graph, mistakes), _node_line, graph, mistakes, _stand_in_node)
     take_lines(lines["no"], _no_nodes_line, graph, mistakes)
@@ -144,8 +144,7 @@ def _constraint_line(line: Line, graph: Fed) -> None:
         key.append(meant(line.take("a label or ->")))
         while line.skip(","):
             key.append(meant(line.take("a label")))
-        if not line.skip("->"):
-            raise line.expected("a comma or ->")
+        line.want("->")
     label = meant(line.take("a label"))
     line.want("at", "most")
     most = line.whole_number("N", 1, MAX_N)

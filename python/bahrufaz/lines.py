@@ -3,7 +3,6 @@
 from __future__ import annotations
 
 import contextlib
-import io
 import json
 import re
 from typing import Callable, Iterable, Iterator, Mapping, NamedTuple, TypeVar
@@ -26,6 +25,7 @@ _TOKEN = re.compile(
 _SIGNS = {"→": "->", "≤": "<=", "≥": ">="}
 _DIGITS = 20  # so many are beyond every range, however many follow
 _MOST_MISTAKES = 1_000
+_PART = 1 << 20
 _Target = TypeVar("_Target")
 
 
@@ -63,9 +63,8 @@ class Line:
         """Two words where one is expected: perhaps a name with a blank in it."""
         at = 2 if self._at == 3 and self._tokens[0].text == "node" else self._at
         words = self._tokens[max(at - 1, 1) : at + 1]
-        if len(words) < 2 or any(word.kind != "word" or word.number is not None for word in words):
-            return ""
-        if self.next_text() in _KEYWORDS:
+        plain = [word.kind == "word" and word.number is None for word in [*words, self.peek()] if word]
+        if len(plain) < 3 or not all(plain) or not self.next_text()[0].isalnum() or self.next_text() in _KEYWORDS:
             return ""
         return f"; a name with a blank in it is quoted, as {shortened(spelled(' '.join(word.text for word in words)))}"
 
@@ -145,15 +144,21 @@ class Mistakes:
 
 
 def numbered_lines(text: str) -> Iterator[tuple[int, str]]:
-    """The lines of a text one by one, never all of them at once."""
-    for number, line in enumerate(io.StringIO(text), 1):
-        yield number, line[:-1] if line[-1] == "\n" else line
+    """The lines of a text one by one; they are cut out a part at a time, and never stand all in memory."""
+    at, number = 0, 1
+    while at <= len(text):
+        end = text.find("\n", at + _PART)
+        end = len(text) if end < 0 else end
+        part = text[at:end].split("\n")
+        yield from enumerate(part, number)
+        at, number = end + 1, number + len(part)
 
 
 def sorted_lines(
-    text: str, kinds: Mapping[str, int], what: str, mistakes: Mistakes
+    text: str, kinds: Mapping[str, int], what: str, mistakes: Mistakes, of: str
 ) -> dict[str, list[tuple[int, str]]]:
-    """The lines that say something, numbered, by their kinds, which are their first words: so many at most of each."""
+    """The lines that say something, numbered, by their kinds, which are their first words: as many at most of each
+    as that which the text is of can have."""
     found: dict[str, list[tuple[int, str]]] = {kind: [] for kind in kinds}
     for number, line in numbered_lines(text):
         words = line.split(None, 1)
@@ -168,7 +173,7 @@ def sorted_lines(
                 continue
         found[kind].append((number, line))
         if len(found[kind]) > kinds[kind]:
-            mistakes.add(number, f"there are at most {kinds[kind]:,} {kind} lines")
+            mistakes.add(number, f"{of} has at most {kinds[kind]:,} {kind}s")
             mistakes.tell()
     return found
 

@@ -141,7 +141,7 @@ class Pattern:
         pattern, mistakes = cls(), Mistakes(file)
         pattern._file, pattern.question = file, _first_comment(text)
         most = {"label": MAX_LABEL, "node": MAX_PATTERN_NODES, "edge": MAX_PATTERN_EDGES}
-        lines = sorted_lines(text, most, "label, node or edge", mistakes)
+        lines = sorted_lines(text, most, "label, node or edge", mistakes, "a pattern")
         take_lines(lines["label"], _label_line, pattern, mistakes, _stand_in_label)
         take_lines(lines["node"], _node_line, pattern, mistakes, _stand_in_node)
         take_lines(lines["edge"], _edge_line, pattern, mistakes)

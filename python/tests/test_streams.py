@@ -78,6 +78,7 @@ class Streams(CommandCase):
         self.assertEqual(shell("bahrufaz list world.feed a.pat >&-"), (2, "bahrufaz: standard output is closed\n"))
         self.assertEqual(shell("bahrufaz list - a.pat <&-"), (2, "bahrufaz: standard input is closed\n"))
         self.assertEqual(shell("bahrufaz list none.feed a.pat 2>&-"), (2, ""))
+        self.assertEqual(shell("bahrufaz list none.feed a.pat 2</dev/null"), (2, ""))
         self.assertEqual(shell("bahrufaz list world.feed a.pat >/dev/full")[0], 2)
         self.assertEqual(shell("bahrufaz build world.feed --draft -o /dev/full"), (2, "bahrufaz: /dev/full: No space left on device\n"))
 
@@ -142,7 +143,7 @@ class MadeToHurt(CommandCase):
     @unittest.skipUnless(resource, "memory cannot be bounded here")
     def test_memory_is_bounded_for_many_lines(self):
         for name, line in {"same.feed": b"node a x\n", "junk.feed": b"ab\n", "empty.feed": b"\n", "edges.feed": b"edge a -> b\n"}.items():
-            Path(name).write_bytes(b"label x\n" + line * ((30 << 20) // len(line)))
+            Path(name).write_bytes(b"label x\n" + line * ((24 << 20) // len(line)))
             done = run("build", name, "-o", "x.store", bounded=400 << 20)
             self.assertEqual(done.returncode, 2, (name, done.stderr[-300:]))
             self.assertIn(name.encode(), done.stderr)

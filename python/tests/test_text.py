@@ -8,6 +8,7 @@ from unittest import mock
 
 from bahrufaz import Graph, Names, Pattern, Store, WrongGraph, WrongName, WrongText, feed
 from bahrufaz.files import write_whole
+from bahrufaz.lines import numbered_lines
 from bahrufaz.namesfile import names_path, names_text, read_names
 from bahrufaz.text import aligned, spelled
 
@@ -136,6 +137,8 @@ class FeedErrors(unittest.TestCase):
             "node c x value = 2147483648": "expected a value, a whole number from -2,147,483,648 to 2,147,483,647, "
             "found '2147483648'",
             "edge a b": "expected ->, found 'b'; a name with a blank in it is quoted, as \"a b\"",
+            "edge a - > b": "expected ->, found '-'",
+            "node c x 3": "expected value =, found '3'",
             "edge a -> b c": "expected the end of the line, found 'c'; a name with a blank in it is quoted, as \"b c\"",
             "node body weight x": "expected value =, found 'x'; a name with a blank in it is quoted, as \"body weight\"",
             "label body weight": "expected the number of label body, a whole number from 1 to 65,535, found 'weight'; "
@@ -143,7 +146,7 @@ class FeedErrors(unittest.TestCase):
             "edge a -> c": "no node is named c",
             "edge a -> 2": "no node has the id 2: there are 2 nodes, from id 0",
             "edge a -> a": "an edge joins two different nodes, and a -> a does not",
-            "constraint x y -> x at most 1": "expected a comma or ->, found 'y'; a name with a blank in it is quoted, as \"x y\"",
+            "constraint x y -> x at most 1": "expected ->, found 'y'; a name with a blank in it is quoted, as \"x y\"",
             "constraint x -> y": "expected at most, found the end of the line",
             "constraint x -> y at most 0": "expected N, a whole number from 1 to 65,535, found '0'",
             "constraint x, x -> y at most 1": "a constraint has at most 3 labels before ->, each once",
@@ -207,7 +210,7 @@ class FeedErrors(unittest.TestCase):
 
     def test_limits_of_a_store(self):
         lines = "".join(f"constraint -> {label} at most 1\n" for label in range(1, 34))
-        with self.assertRaisesRegex(WrongText, "^w:33: there are at most 32 constraint lines$"):
+        with self.assertRaisesRegex(WrongText, "^w:33: a store has at most 32 constraints$"):
             Graph.of_text(lines + "no nodes", "w")
         graph = Graph()
         graph.nodes = [(1, 0)] * 65_535
@@ -229,6 +232,11 @@ class FeedErrors(unittest.TestCase):
             Graph.of_text("node a 1\nno nodes", "w")
         with self.assertRaisesRegex(WrongText, "w:1: expected nodes, found 'edges'"):
             Graph.of_text("no edges", "w")
+
+    def test_line_numbers_of_long_texts(self):
+        with mock.patch("bahrufaz.lines._PART", 7):
+            for text in ("", "a", "a\n", "\n\n\n", "ab\ncdefghij\n\nk\nlmnopq\nr\n", "x" * 30, "x\n" * 30):
+                self.assertEqual(list(numbered_lines(text)), list(enumerate(text.split("\n"), 1)))
 
     def test_any_line_ends(self):
         text = (EXAMPLES / "small" / "world.feed").read_text(encoding="utf-8")
@@ -277,7 +285,7 @@ class PatternErrors(unittest.TestCase):
         self.assert_error("node a x\nedge a -> a", "2: an edge joins two different nodes, and a -> a does not")
         self.assert_error("node a 0", "1: expected a label, a whole number from 1 to 65,535, found '0'")
         nine = "".join(f"node n{place} x\n" for place in range(9))
-        self.assert_error(nine, "9: there are at most 8 node lines")
+        self.assert_error(nine, "9: a pattern has at most 8 nodes")
 
     def test_labels_come_from_the_graph_or_the_pattern(self):
         names = small_world().names
