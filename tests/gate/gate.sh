@@ -7,7 +7,7 @@ cd "$(dirname "$0")/../.."
 unset MAKEFLAGS MFLAGS
 tell=tests/gate/tell.py
 # the steps that need the library
-after="boundary desk"
+after="boundary desk wasm-test board-test"
 began=$(date +%s)
 
 # rt ci removes target/ when it starts, so the logs come there last
