@@ -12,14 +12,18 @@ const [, , wasm, out] = process.argv;
 const root = fileURLToPath(new URL('..', import.meta.url));
 const NOT_SERVED = ['assemble.mjs', 'onefile.mjs', 'serve.mjs'];
 
-const modules = (folder) =>
-  fs.readdirSync(path.join(root, folder)).filter((name) => name.endsWith('.mjs') && !NOT_SERVED.includes(name)).map((name) => `${folder}/${name}`);
+function modules(folder) {
+  const names = fs.readdirSync(path.join(root, folder)).filter((name) => name.endsWith('.mjs') && !NOT_SERVED.includes(name));
+  return names.map((name) => `${folder}/${name}`);
+}
 
 /** Where each file of the page comes from. */
 function pageFiles() {
   const files = new Map([['bahrufaz.wasm', wasm]]);
-  for (const name of ['index.html', 'manifest.webmanifest', 'icon.svg', 'icon-512.png']) files.set(name, path.join(root, 'board', name));
-  for (const name of [...modules('js'), ...modules('board'), 'board/board.css', ...WORLD_FILES]) files.set(name, path.join(root, name));
+  const beside = ['index.html', 'manifest.webmanifest', 'icon.svg', 'icon-512.png'];
+  for (const name of beside) files.set(name, path.join(root, 'board', name));
+  const below = [...modules('js'), ...modules('board'), 'board/board.css', ...WORLD_FILES];
+  for (const name of below) files.set(name, path.join(root, name));
   return files;
 }
 

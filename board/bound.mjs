@@ -1,7 +1,7 @@
 // What is known before anything is read: T in large type, the steps, and what stands in the way.
 
 import { grouped } from '../js/bahrufaz.mjs';
-import { find, h, replace } from './dom.mjs';
+import { button, find, h, replace } from './dom.mjs';
 import { remedies, titleOf } from './figures.mjs';
 import { counted } from './words.mjs';
 
@@ -27,10 +27,10 @@ export function showBound(judgement, world, canList, list) {
   const [tone, figure, sentence] = headline(judgement, world);
   replace(
     find('bound'),
-    h('h2', { class: 'soft' }, judgement.kind === 'planned' || judgement.kind === 'above' ? 'T, before anything is read' : 'Before anything is read'),
+    h('h2', { class: 'soft' }, judgement.bound === undefined ? 'Before anything is read' : 'T, before anything is read'),
     h('p', { class: `t ${tone} ${figure.length > 8 ? 'long' : ''}`, id: 't' }, figure),
     h('p', { id: 'sentence' }, sentence),
-    h('div', { class: 'row' }, h('button', { class: 'main', id: 'list', 'data-key': 'list', disabled: !canList, onclick: list, title: 'List the matches (Ctrl Enter)' }, 'List')),
+    h('div', { class: 'row' }, button('list', 'List', list, { class: 'main', id: 'list', disabled: !canList, title: 'Ctrl Enter' })),
   );
 }
 
@@ -49,45 +49,49 @@ function thing({ title, sentences }) {
 
 function multiplies({ pattern, multiplying: { largest, steps: all, widest } }, world) {
   const most = (row) => world.constraints[row.constraint].most;
+  const product = all.map((row) => grouped(most(row))).join(' × ');
   return h(
     'div',
     { class: 'thing amber' },
     h('h3', {}, titleOf(pattern, widest)),
     h('p', {}, `“${world.names.constraint(world.constraints[widest.constraint])}” multiplies by ${grouped(most(widest))}.`),
-    h('p', {}, `The largest figure is that of ${titleOf(pattern, largest)}: ${all.map((row) => grouped(most(row))).join(' × ')} = ${grouped(largest.figure)}.`),
+    h('p', {}, `The largest figure is that of ${titleOf(pattern, largest)}: ${product} = ${grouped(largest.figure)}.`),
     h('p', {}, 'A smaller N there, or a pattern that starts elsewhere, makes T smaller.'),
   );
 }
 
 function steps({ pattern, rows }, world, open) {
-  const from = ({ chosen }) => chosen.map((node) => pattern.names.spelled(node)).join(', ');
-  return h(
-    'details',
-    { open },
-    h('summary', { 'data-key': 'steps' }, `How it is read: ${counted(rows.length, 'step', 'steps')}`),
-    h('table', {}, h('tbody', {}, rows.map((row) => h('tr', {},
-      h('td', {}, h('strong', {}, titleOf(pattern, row)), h('br'), h('span', { class: 'soft' }, `${world.names.constraint(world.constraints[row.constraint])}${row.chosen.length ? `, from ${from(row)}` : ''}`)),
-      h('td', { class: 'number' }, grouped(row.figure)))))),
-  );
+  const how = ({ constraint, chosen }) => {
+    const from = chosen.map((node) => pattern.names.spelled(node)).join(', ');
+    return `${world.names.constraint(world.constraints[constraint])}${from && `, from ${from}`}`;
+  };
+  const line = (row) => {
+    const what = h('td', {}, h('strong', {}, titleOf(pattern, row)), h('br'), h('span', { class: 'soft' }, how(row)));
+    return h('tr', {}, what, h('td', { class: 'number' }, grouped(row.figure)));
+  };
+  const summary = h('summary', { 'data-key': 'steps' }, `How it is read: ${counted(rows.length, 'step', 'steps')}`);
+  return h('details', { open }, summary, h('table', {}, h('tbody', {}, rows.map(line))));
 }
 
-/** The figure, tone and label of each node and edge, for the board. */
+/** The figure and tone of a node or edge; said is the same for those who do not see it. */
+function markOf(kind, number, judgement, figures) {
+  const figure = figures.get(`${kind} ${number}`), widest = judgement.multiplying?.widest;
+  if (judgement.kind === 'uncovered' && figure === undefined) return { tone: 'red', text: '?', said: 'not covered' };
+  if (figure === undefined) return { said: 'no figure yet' };
+  const tone = widest?.kind === kind && widest.number === number ? 'amber' : '';
+  return { tone, text: `≤ ${grouped(figure)}`, said: `at most ${grouped(figure)}` };
+}
+
+/** The marks of each node and edge, for the board; nodes with their label. */
 export function marksOf(drawing, judgement, world) {
   const figures = new Map((judgement.rows ?? []).map((row) => [`${row.kind} ${row.number}`, row.figure]));
-  const widest = judgement.multiplying?.widest;
-  const mark = (kind, number) => {
-    const figure = figures.get(`${kind} ${number}`);
-    if (judgement.kind === 'uncovered' && figure === undefined) return { tone: 'red', text: '?', said: 'not covered' };
-    if (figure === undefined) return { said: 'no figure yet' };
-    const tone = widest?.kind === kind && widest.number === number ? 'amber' : '';
-    return { tone, text: `≤ ${grouped(figure)}`, said: `at most ${grouped(figure)}` };
-  };
   const order = judgement.pattern ? drawing.edgeOrder() : drawing.state.edges.map((_, number) => number);
   return {
     nodes: drawing.state.nodes.map(({ label }, number) => {
       const labelNumber = world?.numberOf(label);
-      return { ...mark('node', number), labelNumber, label: world && labelNumber !== undefined ? world.names.labels.name(labelNumber) : String(label) };
+      const shown = labelNumber === undefined ? String(label) : world.names.labels.name(labelNumber);
+      return { ...markOf('node', number, judgement, figures), labelNumber, label: shown };
     }),
-    edges: order.map((number) => mark('edge', number)),
+    edges: order.map((number) => markOf('edge', number, judgement, figures)),
   };
 }

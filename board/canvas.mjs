@@ -7,8 +7,13 @@ const MOVED = 7; // so many pixels are a drag and no tap
 const STEP = 0.025; // how far an arrow key moves a node
 const SIDE = 26, TOP = 16, BOTTOM = 26; // pixels that stay free
 
+const CENTRED = { 'text-anchor': 'middle', 'dominant-baseline': 'central' };
+
+/** What lets a part of the picture be reached by keys and be heard. */
+const reachable = (key, said) => ({ tabindex: 0, role: 'button', 'data-key': key, 'aria-label': said });
+
 export class Canvas {
-  /** asks: addAt(place, from), select(what), connect(from, to), move(node, place, tag), remove(what), changed(). */
+  /** asks: addAt(place, from), select(what), connect(from, to), move(node, place), nudge(node, shift), remove(what), refresh(). */
   constructor(asks) {
     this.asks = asks;
     this.svg = find('canvas');
@@ -21,7 +26,7 @@ export class Canvas {
     // without this the click that follows a touch would fall on whatever the touch has opened
     this.svg.addEventListener('touchend', (event) => event.cancelable && event.preventDefault(), { passive: false });
     this.svg.addEventListener('keydown', (event) => this.key(event));
-    new ResizeObserver(() => this.asks.changed()).observe(this.svg);
+    new ResizeObserver(() => this.asks.refresh()).observe(this.svg);
   }
 
   get size() {
@@ -36,7 +41,13 @@ export class Canvas {
   /** The room in which the middles of boxes may stand. */
   get frame() {
     const { width, height } = this.size, box = this.box;
-    return { left: box.width / 2 + SIDE, top: box.height / 2 + TOP, width: width - box.width - 2 * SIDE, height: height - box.height - TOP - BOTTOM, box };
+    return {
+      left: box.width / 2 + SIDE,
+      top: box.height / 2 + TOP,
+      width: width - box.width - 2 * SIDE,
+      height: height - box.height - TOP - BOTTOM,
+      box,
+    };
   }
 
   /** Parts of the whole as pixels, and back. */
@@ -78,7 +89,7 @@ export class Canvas {
     gesture.moved ||= Math.hypot(gesture.now.x - gesture.start.x, gesture.now.y - gesture.start.y) > MOVED;
     if (!gesture.moved) return;
     gesture.over = gesture.kind === 'handle' ? this.under(event) : null;
-    this.asks.changed();
+    this.asks.refresh();
   }
 
   release(event) {
@@ -92,7 +103,7 @@ export class Canvas {
 
   dropped(gesture, target, place) {
     if (gesture.kind === 'node') return this.asks.move(gesture.number, place);
-    if (gesture.kind !== 'handle') return this.asks.changed();
+    if (gesture.kind !== 'handle') return this.asks.refresh();
     if (target.kind === 'empty' || target.kind === 'edge') return this.asks.addAt(place, gesture.number);
     this.asks.connect(gesture.number, target.number);
   }
@@ -102,13 +113,13 @@ export class Canvas {
     this.joining = null;
     if (from !== null && kind !== 'empty' && kind !== 'edge') return this.asks.connect(from, number);
     if (kind === 'handle') this.joining = number;
-    if (kind === 'empty') return from === null ? this.asks.addAt(place, null) : this.asks.changed();
+    if (kind === 'empty') return from === null ? this.asks.addAt(place, null) : this.asks.refresh();
     this.asks.select({ kind: kind === 'edge' ? 'edge' : 'node', number });
   }
 
   letGo() {
     this.gesture = null;
-    this.asks.changed();
+    this.asks.refresh();
   }
 
   key(event) {
@@ -140,7 +151,7 @@ export class Canvas {
   /** Starts an arrow that ends at the next node that is tapped or entered. */
   join(number) {
     this.joining = number;
-    this.asks.changed();
+    this.asks.refresh();
   }
 
   /** Shows a drawing with what is known of it; marks: figures and colours of nodes and edges. */
@@ -166,30 +177,40 @@ export class Canvas {
     const { d, plate } = arrowPath(places[edge[0]], places[edge[1]], this.box, isPair);
     const isSelected = selection?.kind === 'edge' && selection.number === number;
     const name = `${nodes[edge[0]].name} to ${nodes[edge[1]].name}`;
-    const head = mark?.tone === 'red' ? 'head-red' : isSelected ? 'head-blue' : 'head';
+    const head = mark.tone === 'red' ? 'head-red' : isSelected ? 'head-blue' : 'head';
+    const kind = `edge ${mark.tone ?? ''} ${isSelected ? 'selected' : ''}`;
     return s(
       'g',
-      { class: `edge ${mark?.tone ?? ''} ${isSelected ? 'selected' : ''}`, tabindex: 0, role: 'button', 'data-edge': number, 'data-key': `edge ${number}`, 'aria-label': `arrow ${name}${mark ? `, ${mark.said}` : ''}` },
+      { class: kind, 'data-edge': number, ...reachable(`edge ${number}`, `arrow ${name}, ${mark.said}`) },
       s('path', { d, class: 'reach' }),
       s('path', { d, class: 'arrow', 'marker-end': `url(#${head})` }),
-      mark?.text && this.plate(mark.text, 'figure', plate),
+      mark.text && this.plate(mark.text, 'figure', plate),
     );
   }
 
   node(node, number, { place, selection, mark }) {
-    const { width, height } = this.box, isSelected = selection?.kind === 'node' && selection.number === number;
-    const isTarget = this.gesture?.over && this.gesture.over.kind !== 'empty' && this.gesture.over.number === number && this.gesture.number !== number;
-    const condition = shownConditions(node.conditions), label = mark.label;
-    const second = [label !== node.name ? label : '', condition].filter(Boolean).join(' ');
+    const { width, height } = this.box, isWide = width > 120;
+    const isSelected = selection?.kind === 'node' && selection.number === number;
+    const condition = shownConditions(node.conditions);
+    const second = [mark.label !== node.name ? mark.label : '', condition].filter(Boolean).join(' ');
+    const kind = `node ${mark.tone ?? ''} ${isSelected ? 'selected' : ''} ${this.isTarget(number) ? 'target' : ''}`;
+    const said = `node ${node.name}, ${mark.label} ${condition}, ${mark.said}`;
     return s(
       'g',
-      { class: `node ${mark.tone ?? ''} ${isSelected ? 'selected' : ''} ${isTarget || this.joining === number ? 'target' : ''}`, transform: `translate(${place.x},${place.y})`, tabindex: 0, role: 'button', 'data-node': number, 'data-key': `node ${number}`, 'aria-label': `node ${node.name}, ${label} ${condition}, ${mark.said}` },
+      { class: kind, transform: `translate(${place.x},${place.y})`, 'data-node': number, ...reachable(`node ${number}`, said) },
       s('rect', { x: -width / 2, y: -height / 2, width, height, rx: 14, fill: fillOf(mark.labelNumber), class: 'box' }),
-      s('text', { y: second ? -9 : 0, class: 'name', 'text-anchor': 'middle', 'dominant-baseline': 'central' }, clipped(node.name, width > 120 ? 14 : 10)),
-      second && s('text', { y: 12, class: 'label', 'text-anchor': 'middle', 'dominant-baseline': 'central' }, clipped(second, width > 120 ? 20 : 16)),
+      s('text', { y: second ? -9 : 0, class: 'name', ...CENTRED }, clipped(node.name, isWide ? 14 : 10)),
+      second && s('text', { y: 12, class: 'label', ...CENTRED }, clipped(second, isWide ? 20 : 16)),
       mark.text && this.plate(mark.text, 'badge', { x: width / 2 - 26, y: height / 2 + 3 }),
       this.handle(number, width),
     );
+  }
+
+  /** Whether an arrow is being drawn to a node, or from it by taps or keys. */
+  isTarget(number) {
+    const { over, number: from } = this.gesture ?? {};
+    const isOver = over && ['node', 'handle'].includes(over.kind) && over.number === number;
+    return this.joining === number || (isOver && from !== number);
   }
 
   /** A text on a plate of its own. */
@@ -199,7 +220,7 @@ export class Canvas {
       'g',
       { class: kind, transform: `translate(${x},${y})` },
       s('rect', { x: -width / 2, y: -11, width, height: 22, rx: 11 }),
-      s('text', { 'text-anchor': 'middle', 'dominant-baseline': 'central' }, text),
+      s('text', CENTRED, text),
     );
   }
 
@@ -218,6 +239,7 @@ export class Canvas {
     const gesture = this.gesture;
     if (!gesture?.moved || gesture.kind !== 'handle') return null;
     const from = places[gesture.number];
-    return s('path', { d: `M${from.x + this.box.width / 2},${from.y} L${gesture.now.x},${gesture.now.y}`, class: 'arrow new', 'marker-end': 'url(#head-blue)' });
+    const d = `M${from.x + this.box.width / 2},${from.y} L${gesture.now.x},${gesture.now.y}`;
+    return s('path', { d, class: 'arrow new', 'marker-end': 'url(#head-blue)' });
   }
 }

@@ -18,6 +18,15 @@ export const h = (tag, attributes = {}, ...children) => fill(document.createElem
 /** An SVG element. */
 export const s = (tag, attributes = {}, ...children) => fill(document.createElementNS(SVG, tag), attributes, children);
 
+/** A button; key tells it again after the page is shown anew. */
+export const button = (key, text, onclick, more = {}) => h('button', { 'data-key': key, onclick, ...more }, text);
+
+/** A table with these cells at its head, and rows of texts. */
+export function table(heads, rows) {
+  const row = (cells) => h('tr', {}, cells.map((cell) => h('td', {}, String(cell))));
+  return h('table', {}, h('thead', {}, h('tr', {}, heads.map((head) => h('th', {}, head)))), h('tbody', {}, rows.map(row)));
+}
+
 export const find = (id) => document.getElementById(id);
 
 /** Gives an element other children; the one in focus keeps it where its key is there again. */

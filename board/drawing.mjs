@@ -10,8 +10,14 @@ const copy = (state) => structuredClone(state);
 export class Drawing {
   /** state: question, nodes {name, label, conditions, x, y}, edges [from, to]. */
   constructor(title, state = { question: '', nodes: [], edges: [] }) {
-    Object.assign(this, { title, state, past: [], future: [], own: false, done: false, listed: null });
+    Object.assign(this, { title, state, past: [], future: [], own: false, done: false });
+    this.forgetList();
     this.placed = true; // whether somebody has drawn it: if not, places follow the shape of the board
+  }
+
+  /** A list belongs to the drawing as it was: listed is the library's answer, listing what is shown of it. */
+  forgetList() {
+    Object.assign(this, { listed: null, listing: null });
   }
 
   /** Makes a change that can be undone; changes of one tag in a row are one. */
@@ -19,19 +25,24 @@ export class Drawing {
     const next = copy(this.state);
     edit(next);
     if (!tag || tag !== this.tag) this.past.push(this.state);
-    Object.assign(this, { state: next, future: [], tag, own: true, listed: null });
+    Object.assign(this, { state: next, future: [], tag, own: true });
+    this.forgetList();
   }
 
   undo() {
-    if (!this.past.length) return;
-    this.future.push(this.state);
-    Object.assign(this, { state: this.past.pop(), tag: null, listed: null });
+    this.step(this.past, this.future);
   }
 
   redo() {
-    if (!this.future.length) return;
-    this.past.push(this.state);
-    Object.assign(this, { state: this.future.pop(), tag: null, listed: null });
+    this.step(this.future, this.past);
+  }
+
+  /** Goes to the last state of one pile, and lays this one on the other. */
+  step(from, to) {
+    if (!from.length) return;
+    to.push(this.state);
+    Object.assign(this, { state: from.pop(), tag: null });
+    this.forgetList();
   }
 
   /** A name that no node has yet, from the name of a label. */

@@ -55,8 +55,10 @@ export function titleOf(pattern, { kind, number }) {
 }
 
 function sentenceOf(row, judgement, world) {
-  const label = (node) => world.names.labels.spelled(judgement.pattern.labelNumber(judgement.pattern.nodes[node].label, world.names));
-  if (row.constraint === null) return `No constraint fetches ${label(row.end)}. One such as “${wanted(row, judgement, label)}” would.`;
+  const { pattern } = judgement;
+  const label = (node) => world.names.labels.spelled(pattern.labelNumber(pattern.nodes[node].label, world.names));
+  if (row.constraint === null)
+    return `No constraint fetches ${label(row.end)}. One such as “${wanted(row, judgement, label)}” would.`;
   const constraint = `“${world.names.constraint(world.constraints[row.constraint])}”`;
   if (row.kind === 'node')
     return `${constraint} would, from a covered ${world.names.labels.spelled(row.missing)} that it is joined with.`;
@@ -73,7 +75,9 @@ function wanted({ kind, number, end }, { pattern, uncoveredNodes }, label) {
 
 function edgeSentence({ number, end, reason, missing }, { pattern }, label, constraint, world) {
   const other = pattern.edgeList()[number].find((node) => node !== end);
-  if (reason === NOT_IN_KEY) return `${constraint} does not start from ${label(other)}. One from ${label(other)} to ${label(end)} would cover it.`;
+  if (reason === NOT_IN_KEY)
+    return `${constraint} does not start from ${label(other)}. One from ${label(other)} to ${label(end)} would cover it.`;
   if (reason === OTHER_UNCOVERED) return `${constraint} would, once ${pattern.names.spelled(other)} is covered.`;
-  return `${constraint} would, from a covered ${world.names.labels.spelled(missing)} that ${pattern.names.spelled(end)} is joined with.`;
+  const joined = `that ${pattern.names.spelled(end)} is joined with`;
+  return `${constraint} would, from a covered ${world.names.labels.spelled(missing)} ${joined}.`;
 }

@@ -1,13 +1,22 @@
 // What is selected, with everything about it that can be changed: the same by touch and by keys.
 
-import { find, h, replace } from './dom.mjs';
+import { MAX_VALUE, MIN_VALUE } from '../js/bahrufaz.mjs';
+import { button, find, h, replace } from './dom.mjs';
 
-const OPERATORS = { '': 'any', '=': '=', '<': '<', '>': '>', '<=': '≤', '>=': '≥' };
-const MIN_VALUE = -(2 ** 31), MAX_VALUE = 2 ** 31 - 1;
+const SIGNS = { '': 'any', '=': '=', '<': '<', '>': '>', '<=': '≤', '>=': '≥' };
 
-function head(title, close) {
-  return h('div', { class: 'head' }, h('h2', {}, title), h('button', { class: 'quiet', id: 'deselect', 'data-key': 'close', onclick: close, title: 'Close (Escape)' }, 'Close'));
+function headOf(title, close) {
+  return h('div', { class: 'head' }, h('h2', {}, title), button('close', 'Close', close, { class: 'quiet', title: 'Close (Escape)' }));
 }
+
+const labelled = (text, field) => h('label', {}, h('span', { class: 'soft' }, text), field);
+
+/** A choice of one among options {value, text}. */
+function choice(attributes, options, isChosen) {
+  return h('select', attributes, options.map((one) => h('option', { value: one.value, selected: isChosen(one.value) }, one.text)));
+}
+
+const removal = (text, remove) => button('remove', text, remove, { class: 'danger', id: 'remove' });
 
 /** The conditions that the fields of a form say; a field that is no whole number leaves its condition out. */
 function conditionsIn(element) {
@@ -19,18 +28,17 @@ function conditionsIn(element) {
   });
 }
 
-function conditionRow(place, condition, changed) {
+function conditionRow(place, condition, onchange) {
   const name = place ? 'and value' : 'value';
+  const signs = Object.entries(SIGNS).map(([value, text]) => ({ value, text }));
+  const operator = { 'aria-label': `${name}, operator`, id: `operator-${place}`, 'data-key': `operator ${place}`, onchange };
+  const constant = { 'aria-label': `${name}, number`, id: `constant-${place}`, 'data-key': `constant ${place}`, onchange };
   return h(
     'div',
     { class: 'condition' },
     h('span', {}, name),
-    h(
-      'select',
-      { 'aria-label': `${name}, operator`, id: `operator-${place}`, 'data-key': `operator ${place}`, onchange: changed },
-      Object.entries(OPERATORS).map(([code, sign]) => h('option', { value: code, selected: code === (condition?.operator ?? '') }, sign)),
-    ),
-    h('input', { type: 'number', step: 1, min: MIN_VALUE, max: MAX_VALUE, 'aria-label': `${name}, number`, id: `constant-${place}`, 'data-key': `constant ${place}`, value: condition?.constant ?? '', onchange: changed }),
+    choice(operator, signs, (sign) => sign === (condition?.operator ?? '')),
+    h('input', { type: 'number', step: 1, min: MIN_VALUE, max: MAX_VALUE, value: condition?.constant ?? '', ...constant }),
   );
 }
 
@@ -44,52 +52,53 @@ export class Inspector {
   show(drawing, selection, world) {
     this.element.hidden = !selection;
     if (!selection) return replace(this.element);
-    const parts = selection.kind === 'node' ? this.node(drawing, selection.number, world) : this.edge(drawing, selection.number);
-    replace(this.element, ...parts);
+    const { kind, number } = selection;
+    replace(this.element, ...(kind === 'node' ? this.node(drawing, number, world) : this.edge(drawing, number)));
   }
 
   focus() {
-    this.element.querySelector('input, select, button:not(#deselect)')?.focus();
+    this.element.querySelector('input, #turn')?.focus();
   }
 
   node({ state }, number, world) {
     const { name, label, conditions } = state.nodes[number], asks = this.asks;
     const changed = () => asks.condition(number, conditionsIn(this.element));
+    const rename = (event) => asks.rename(number, event.target.value.trim());
     return [
-      head('Node', asks.deselect),
-      h('label', {}, h('span', { class: 'soft' }, 'Name'), h('input', { id: 'node-name', 'data-key': 'name', value: name, autocomplete: 'off', onchange: (event) => asks.rename(number, event.target.value.trim()) })),
-      h('label', {}, h('span', { class: 'soft' }, 'Label'), this.labels(label, world, (value) => asks.relabel(number, value))),
+      headOf('Node', asks.deselect),
+      labelled('Name', h('input', { id: 'node-name', 'data-key': 'name', value: name, autocomplete: 'off', onchange: rename })),
+      labelled('Label', this.labels(label, world, (value) => asks.relabel(number, value))),
       conditionRow(0, conditions[0], changed),
       conditionRow(1, conditions[1], changed),
       this.joiner(state, number),
-      h('div', { class: 'row' }, h('button', { class: 'danger', id: 'remove', 'data-key': 'remove', onclick: () => asks.remove({ kind: 'node', number }) }, 'Delete node')),
+      h('div', { class: 'row' }, removal('Delete node', () => asks.remove({ kind: 'node', number }))),
     ];
   }
 
   labels(label, world, chosen) {
     const known = world.labels.map(({ number, name }) => ({ value: number, text: name }));
-    const own = world.numberOf(label);
-    if (!known.some(({ value }) => value === own)) known.push({ value: label, text: String(label) });
-    const pick = (event) => chosen(known[event.target.selectedIndex].value);
-    return h('select', { id: 'node-label', 'data-key': 'label', onchange: pick }, known.map(({ value, text }) => h('option', { selected: value === own || value === label }, text)));
+    const own = world.numberOf(label) ?? label;
+    if (!known.some(({ value }) => value === own)) known.push({ value: own, text: String(own) });
+    const onchange = (event) => chosen(known[event.target.selectedIndex].value);
+    return choice({ id: 'node-label', 'data-key': 'label', onchange }, known, (value) => value === own);
   }
 
   /** An arrow to another node, for those who do not drag. */
   joiner({ nodes }, number) {
-    const others = nodes.map(({ name }, other) => ({ name, other })).filter(({ other }) => other !== number);
+    const others = nodes.map(({ name }, value) => ({ value, text: name })).filter(({ value }) => value !== number);
     if (!others.length) return null;
-    const connect = (event) => event.target.value !== '' && this.asks.connect(number, Number(event.target.value));
-    return h('label', {}, h('span', { class: 'soft' }, 'Arrow to'), h('select', { id: 'arrow-to', 'data-key': 'arrow', onchange: connect }, h('option', { value: '' }, '…'), others.map(({ name, other }) => h('option', { value: other }, name))));
+    const onchange = (event) => event.target.value !== '' && this.asks.connect(number, Number(event.target.value));
+    const options = [{ value: '', text: '…' }, ...others];
+    return labelled('Arrow to', choice({ id: 'arrow-to', 'data-key': 'arrow', onchange }, options, (value) => value === ''));
   }
 
   edge({ state }, number) {
     const [from, to] = state.edges[number].map((node) => state.nodes[node].name), asks = this.asks;
+    const turn = button('turn', 'Turn round', () => asks.turn(number), { id: 'turn' });
     return [
-      head('Arrow', asks.deselect),
+      headOf('Arrow', asks.deselect),
       h('p', {}, `${from} → ${to}`),
-      h('div', { class: 'row' },
-        h('button', { id: 'turn', 'data-key': 'turn', onclick: () => asks.turn(number) }, 'Turn round'),
-        h('button', { class: 'danger', id: 'remove', 'data-key': 'remove', onclick: () => asks.remove({ kind: 'edge', number }) }, 'Delete arrow')),
+      h('div', { class: 'row' }, turn, removal('Delete arrow', () => asks.remove({ kind: 'edge', number }))),
     ];
   }
 }

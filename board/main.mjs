@@ -6,7 +6,7 @@ import { marksOf, showBound, showWhy } from './bound.mjs';
 import { Canvas } from './canvas.mjs';
 import { showChecklist } from './checklist.mjs';
 import { Desk, Stopped } from './desk.mjs';
-import { find, h, keep, replace } from './dom.mjs';
+import { button, find, h, keep, replace } from './dom.mjs';
 import { Drawing, MOST_NODES } from './drawing.mjs';
 import { judge } from './figures.mjs';
 import { Inspector } from './inspector.mjs';
@@ -15,10 +15,10 @@ import { Listing, Results } from './results.mjs';
 import { fillOf } from './shapes.mjs';
 import { recall, remember } from './memory.mjs';
 import { showStory } from './story.mjs';
-import { World, showProgress, showRefusedWorld, showWorld, showWrong } from './world.mjs';
+import { Progress, World, showRefusedWorld, showWorld, showWrong } from './world.mjs';
 import { WORLDS } from './worlds.mjs';
 
-const SLOW = 100; // so many milliseconds pass before progress is shown
+const HELP = 'Tap for a new node, drag a round arrow to connect, drag a node to move it.';
 const baseName = (path) => path.split('/').at(-1).replace(/\.[^.]*$/, '');
 const isPattern = ({ name }) => name.endsWith('.pat');
 
@@ -37,37 +37,32 @@ class Board {
 
   // ---- worlds
 
-  /** Opens files as a world; the one before it stays where they are refused. */
-  async openWorld(title, files) {
-    const late = setTimeout(() => (this.isSlow = true), SLOW);
-    let last;
-    const tell = (progress) => {
-      last = progress;
-      if (this.isSlow) showProgress(title, progress, () => this.desk.stop());
-    };
-    const shown = setTimeout(() => last && tell(last), SLOW + 10);
+  /** Asks the worker; what takes longer than a tenth of a second shows its progress, and can be stopped. */
+  async ask(title, question) {
+    const progress = new Progress(title, () => this.desk.stop());
     try {
-      return this.takeWorld(title, await this.desk.ask({ kind: 'open', files }, tell));
+      return await this.desk.ask(question, (step) => progress.tell(step));
     } catch (error) {
-      this.showWorldAgain();
-      if (!(error instanceof Stopped)) showWrong(title, error.message);
-      return false;
+      return error instanceof Stopped ? { stopped: true } : { wrong: error.message };
     } finally {
-      clearTimeout(late);
-      clearTimeout(shown);
-      this.isSlow = false;
+      if (progress.end()) this.showWorldAgain();
     }
   }
 
+  /** Opens files as a world; the one before it stays where they are refused. */
+  async openWorld(title, files) {
+    const opened = await this.ask(title, { kind: 'open', files });
+    if (opened.store) return this.takeWorld(title, opened);
+    if (opened.refused) showRefusedWorld(title, opened.refused);
+    if (opened.wrong) showWrong(title, opened.wrong);
+    return false;
+  }
+
   takeWorld(title, opened) {
-    if (opened.refused) {
-      this.showWorldAgain();
-      showRefusedWorld(title, opened.refused);
-      return false;
-    }
     this.world = new World(title, opened);
     this.builtIn = null;
-    for (const drawing of this.drawings) drawing.listed = null;
+    this.judgements.clear();
+    for (const drawing of this.drawings) drawing.forgetList();
     this.results.hide();
     showWorld(this.world);
     return true;
@@ -92,7 +87,8 @@ class Board {
 
   /** Opens whatever files are given: patterns, and a world. */
   async openFiles(list) {
-    const files = await Promise.all([...list].map(async (file) => ({ name: file.name, bytes: new Uint8Array(await file.arrayBuffer()) })));
+    const read = async (file) => ({ name: file.name, bytes: new Uint8Array(await file.arrayBuffer()) });
+    const files = await Promise.all([...list].map(read));
     const patterns = files.filter(isPattern), world = files.filter((file) => !isPattern(file));
     if (world.length && (await this.openWorld(world[0].name, world))) {
       this.drawings = this.drawings.filter((drawing) => drawing.own);
@@ -134,15 +130,34 @@ class Board {
     this.choose(drawing);
   }
 
+  /** Takes a pattern off the checklist; there is always one to draw on. */
+  removePattern() {
+    const { drawing, drawings } = this, place = drawings.indexOf(drawing);
+    if (drawing.own && drawing.state.nodes.length && !confirm(`Remove ${drawing.title}? What is not saved is lost.`)) return;
+    drawings.splice(place, 1);
+    if (drawings.length) this.choose(drawings[Math.min(place, drawings.length - 1)]);
+    else this.newPattern();
+  }
+
+  retitle(title) {
+    if (title) Object.assign(this.drawing, { title, own: true });
+    this.changed();
+  }
+
   /** After any change of the drawing: its old list no longer belongs to it. */
   changed() {
-    if (!this.drawing) return;
-    if (!this.drawing.listed && this.results.listing?.title === this.drawing.title) this.results.hide();
+    if (!this.drawing.listed) this.results.hide();
     for (const drawing of this.drawings) if (!this.judgements.has(drawing) || drawing === this.drawing) this.judge(drawing);
-    if (!this.drawing.placed) this.drawing.arrange(this.canvas.frame);
     this.keepSelection();
-    this.show();
+    this.refresh();
     remember(this);
+  }
+
+  /** Shows everything again; a drawing that nobody has placed follows the shape of the board. */
+  refresh() {
+    if (!this.drawing) return;
+    if (!this.drawing.placed) this.drawing.arrange(this.canvas.frame);
+    this.show();
   }
 
   judge(drawing) {
@@ -163,11 +178,12 @@ class Board {
     showWhy(judgement, world);
     showChecklist(this.drawings, drawing, this.judgements, this.checklistAsks());
     find('hint').textContent = this.hint();
+    find('title').value = drawing.title;
     find('undo').disabled = !drawing.past.length;
     find('redo').disabled = !drawing.future.length;
     for (const id of ['save-pattern', 'tidy']) find(id).disabled = !drawing.state.nodes.length;
     find('add-node').disabled = !world || drawing.state.nodes.length >= MOST_NODES;
-    for (const button of find('worlds').children) button.setAttribute('aria-pressed', String(button.dataset.world === this.builtIn?.id));
+    for (const one of find('worlds').children) one.setAttribute('aria-pressed', String(one.dataset.world === this.builtIn?.id));
     showStory(this);
   }
 
@@ -176,7 +192,7 @@ class Board {
     if (this.canvas.joining !== null) return `Now the node that the arrow from ${nodes[this.canvas.joining].name} goes to.`;
     if (!nodes.length) return 'Tap anywhere to add a node.';
     if (nodes.length > 1 && !edges.length) return 'Drag from the round arrow of a node to another node.';
-    return question.split('\n')[0];
+    return question.split('\n')[0] || HELP;
   }
 
   // ---- what the parts of the page ask for
@@ -189,7 +205,7 @@ class Board {
       move: (number, place) => this.edit((drawing) => drawing.move(number, place)),
       nudge: (number, [dx, dy]) => this.nudge(number, dx, dy),
       remove: (what) => this.remove(what),
-      changed: () => this.changed(),
+      refresh: () => this.refresh(),
     };
   }
 
@@ -253,8 +269,12 @@ class Board {
         dialog.close();
         resolve(label);
       };
-      const button = ({ number, name, count }) => h('button', { style: `background:${fillOf(number)}`, onclick: () => close(number) }, name, h('small', {}, `${count} in this world`));
-      replace(find('chooser-labels'), this.world.labels.map(button));
+      const offer = ({ number, name, count }) => {
+        const offered = button(`label ${number}`, name, () => close(number), { style: `background:${fillOf(number)}` });
+        offered.append(h('small', {}, `${count} in this world`));
+        return offered;
+      };
+      replace(find('chooser-labels'), this.world.labels.map(offer));
       find('chooser-cancel').onclick = () => close(null);
       dialog.onclose = () => close(null);
       dialog.showModal();
@@ -294,10 +314,13 @@ class Board {
   // ---- lists
 
   async list(drawing = this.drawing) {
-    const judgement = this.judgements.get(drawing), { world } = this;
+    const judgement = this.judgements.get(drawing), { world } = this, { state } = drawing;
     if (judgement?.kind !== 'planned') return;
-    drawing.listed = await this.desk.ask({ kind: 'list', store: world.store, pattern: judgement.bytes });
-    drawing.listing = drawing.listed.answer === 0 ? new Listing(drawing, judgement, world, this.canvas.size) : null;
+    const told = await this.ask(drawing.title, { kind: 'list', store: world.store, pattern: judgement.bytes });
+    if (told.wrong) showWrong(drawing.title, told.wrong);
+    if (told.answer === undefined || world !== this.world || state !== drawing.state) return; // the list of something past
+    drawing.listed = told;
+    drawing.listing = told.answer === 0 ? new Listing(drawing, judgement, world, this.canvas.size) : null;
     if (drawing === this.drawing) this.showList(drawing);
     this.show();
   }
@@ -324,11 +347,15 @@ class Board {
     click('save-pattern', () => this.save());
     click('new-pattern', () => this.newPattern());
     click('list-all', () => this.listAll());
+    click('remove-pattern', () => this.removePattern());
+    find('title').addEventListener('change', ({ target }) => this.retitle(target.value.trim()));
     for (const [button, input] of [['open-world', 'world-files'], ['open-pattern', 'pattern-files']]) {
       click(button, () => find(input).click());
       find(input).addEventListener('change', ({ target }) => this.openFiles(target.files).then(() => (target.value = '')));
     }
-    replace(find('worlds'), WORLDS.map((world) => h('button', { class: 'quiet', 'data-world': world.id, onclick: () => this.openBuiltIn(world) }, world.title)));
+    const offer = (world) =>
+      button(world.id, world.title, () => this.openBuiltIn(world), { class: 'quiet', 'data-world': world.id });
+    replace(find('worlds'), WORLDS.map(offer));
     addEventListener('keydown', (event) => this.key(event));
     addEventListener('beforeprint', () => this.results.print(find('printed')));
     this.wireDrop();

@@ -6,9 +6,9 @@ const KEY = 'bahrufaz-board';
 
 export function remember({ drawings, builtIn }) {
   const own = drawings.filter(({ own: isOwn, state }) => isOwn && state.nodes.length);
-  const kept = { world: builtIn?.id ?? null, patterns: own.map((drawing) => ({ title: drawing.title, text: drawing.text(), done: drawing.done })) };
+  const patterns = own.map((drawing) => ({ title: drawing.title, text: drawing.text(), done: drawing.done }));
   try {
-    localStorage.setItem(KEY, JSON.stringify(kept));
+    localStorage.setItem(KEY, JSON.stringify({ world: builtIn?.id ?? null, patterns }));
   } catch {
     // a browser that keeps nothing still draws
   }

@@ -11,20 +11,21 @@ function openFeed(library, { name, bytes }, tell) {
   const graph = graphOfText(textOfBytes(bytes, name), name);
   tell({ step: 'building the store', done: 1, of: STEPS });
   const built = graph.build(library);
-  return built.answer ? { refused: built } : admitted(library, built.store, graph.names, tell);
+  return built.answer ? { refused: built } : admitted(library, built.store, () => graph.names, tell);
 }
 
 /** The world of a store's bytes, with names if they were opened with it. */
 function openStore(library, { bytes }, beside, tell) {
-  return admitted(library, bytes, () => (beside ? namesOfText(textOfBytes(beside.bytes, beside.name), beside.name, bytes) : new Names()), tell);
+  const names = () => (beside ? namesOfText(textOfBytes(beside.bytes, beside.name), beside.name, bytes) : new Names());
+  return admitted(library, bytes, names, tell);
 }
 
-/** Admits a store; only then are its records looked at. */
+/** Admits a store; only then are its records and names looked at. */
 function admitted(library, store, names, tell) {
   tell({ step: 'admitting the store', done: 2, of: STEPS });
   const told = library.admit(store);
   if (told.answer) return { refused: told };
-  const known = typeof names === 'function' ? names() : names;
+  const known = names();
   return {
     store,
     counts: countsOf(store),

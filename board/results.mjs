@@ -1,7 +1,7 @@
 // The list: rows by name, sorted and filtered, as pictures, as files to keep, and as a printed page.
 
 import { grouped } from '../js/bahrufaz.mjs';
-import { find, h, keep, replace } from './dom.mjs';
+import { button, find, h, keep, replace, table } from './dom.mjs';
 import { picture } from './shapes.mjs';
 import { counted } from './words.mjs';
 
@@ -25,7 +25,8 @@ export class Listing {
   get summary() {
     const { matches, nodeEntries, edgeEntries, bound } = this.listed;
     const found = matches ? counted(matches, 'match', 'matches') : 'no match';
-    return `${found}; ${counted(nodeEntries + edgeEntries, 'entry', 'entries')} read of at most ${grouped(bound)} (${grouped(nodeEntries)} for nodes, ${grouped(edgeEntries)} for edges)`;
+    const read = `${counted(nodeEntries + edgeEntries, 'entry', 'entries')} read of at most ${grouped(bound)}`;
+    return `${found}; ${read} (${grouped(nodeEntries)} for nodes, ${grouped(edgeEntries)} for edges)`;
   }
 
   /** The rows that are shown: those with the filter's text, in the order asked for. */
@@ -46,7 +47,8 @@ export class Listing {
   /** As the command's list --json has it. */
   json() {
     const { matches, nodeEntries, edgeEntries, bound } = this.listed;
-    const told = { answer: 0, admitted: true, matches, node_entries: nodeEntries, edge_entries: edgeEntries, bound, nodes: this.columns };
+    const counts = { matches, node_entries: nodeEntries, edge_entries: edgeEntries, bound };
+    const told = { answer: 0, admitted: true, ...counts, nodes: this.columns };
     const members = Object.entries(told).map(([name, value]) => `  ${JSON.stringify(name)}: ${spaced(value)}`);
     const rows = this.rows.map((row) => `    ${spaced(row)}`).join(',\n');
     members.push(this.rows.length ? `  "rows": [\n${rows}\n  ]` : '  "rows": []');
@@ -76,7 +78,8 @@ export class Results {
   refuse(refused) {
     this.listing = null;
     this.element.hidden = false;
-    replace(this.element, h('div', { class: 'refusal' }, h('p', {}, h('strong', {}, `Refused with ${refused.answer}: `), refused.sentence), h('p', {}, refused.advice)));
+    const number = h('strong', {}, `Refused with ${refused.answer}: `);
+    replace(this.element, h('div', { class: 'refusal' }, h('p', {}, number, refused.sentence), h('p', {}, refused.advice)));
   }
 
   hide() {
@@ -87,7 +90,7 @@ export class Results {
 
   render() {
     const { listing } = this, rows = listing.shown();
-    const body = listing.view === 'table' ? this.table(rows) : this.pictures(rows);
+    const body = listing.view === 'table' ? this.asTable(rows) : this.asPictures(rows);
     replace(
       this.element,
       h('p', { class: 'summary', id: 'summary' }, h('strong', {}, listing.title), ': ', listing.summary),
@@ -103,19 +106,23 @@ export class Results {
 
   tools(rows) {
     const { listing } = this;
-    const view = (name, text) => h('button', { 'data-key': name, id: `view-${name}`, 'aria-pressed': String(listing.view === name), onclick: () => this.change({ view: name, most: 0 }) }, text);
+    const view = (name, text) => {
+      const more = { id: `view-${name}`, 'aria-pressed': String(listing.view === name) };
+      return button(name, text, () => this.change({ view: name, most: 0 }), more);
+    };
     const file = listing.title.replace(/[^\p{L}\p{N}._-]+/gu, '-');
+    const filter = { id: 'filter', 'data-key': 'filter', placeholder: 'Filter', 'aria-label': 'Filter', value: listing.filter };
     return h(
       'div',
       { class: 'tools' },
       view('table', 'Table'),
       view('pictures', 'Pictures'),
-      h('input', { type: 'search', id: 'filter', 'data-key': 'filter', placeholder: 'Filter', 'aria-label': 'Filter', value: listing.filter, oninput: (event) => this.filtered(event.target) }),
+      h('input', { type: 'search', oninput: (event) => this.filtered(event.target), ...filter }),
       listing.filter && h('span', { class: 'soft' }, `${grouped(rows.length)} shown`),
       h('span', { class: 'gap' }),
-      h('button', { id: 'csv', 'data-key': 'csv', onclick: () => keep(`${file}.csv`, 'text/csv', listing.csv()) }, 'CSV'),
-      h('button', { id: 'json', 'data-key': 'json', onclick: () => keep(`${file}.json`, 'application/json', listing.json()) }, 'JSON'),
-      h('button', { id: 'print', 'data-key': 'print', onclick: () => print() }, 'Print'),
+      button('csv', 'CSV', () => keep(`${file}.csv`, 'text/csv', listing.csv()), { id: 'csv' }),
+      button('json', 'JSON', () => keep(`${file}.json`, 'application/json', listing.json()), { id: 'json' }),
+      button('print', 'Print', () => print(), { id: 'print' }),
     );
   }
 
@@ -125,22 +132,24 @@ export class Results {
     find('filter').setSelectionRange(at, at);
   }
 
-  table(rows) {
+  asTable(rows) {
     const { listing } = this, most = listing.most || FIRST_ROWS;
     const sort = (column) => this.change({ sorted: { column, down: listing.sorted?.column === column && !listing.sorted.down } });
     const sign = (column) => (listing.sorted?.column !== column ? '' : listing.sorted.down ? ' ↓' : ' ↑');
-    const heads = listing.columns.map((name, column) => h('th', {}, h('button', { 'data-key': `sort ${column}`, onclick: () => sort(column) }, `${name}${sign(column)}`)));
-    return h('div', { class: 'scroll' }, h('table', {}, h('thead', {}, h('tr', {}, heads)), h('tbody', {}, rows.slice(0, most).map(tableRow))), this.more(rows, most));
+    const heads = listing.columns.map((name, column) => button(`sort ${column}`, `${name}${sign(column)}`, () => sort(column)));
+    return h('div', { class: 'scroll' }, table(heads, rows.slice(0, most)), this.more(rows, most));
   }
 
-  pictures(rows) {
+  asPictures(rows) {
     const most = this.listing.most || FIRST_PICTURES;
-    return h('div', {}, h('div', { class: 'pictures' }, rows.slice(0, most).map((row) => this.listing.picture(row))), this.more(rows, most));
+    const drawn = rows.slice(0, most).map((row) => this.listing.picture(row));
+    return h('div', {}, h('div', { class: 'pictures' }, drawn), this.more(rows, most));
   }
 
   more(rows, most) {
     if (rows.length <= most) return null;
-    return h('p', { class: 'row' }, h('button', { 'data-key': 'more', onclick: () => this.change({ most: 5 * most }) }, `Show more of ${grouped(rows.length)}`));
+    const show = () => this.change({ most: 5 * most });
+    return h('p', { class: 'row' }, button('more', `Show more of ${grouped(rows.length)}`, show));
   }
 
   /** Fills the printed page: what was asked, what was read, and every row. */
@@ -154,10 +163,8 @@ export class Results {
       h('p', {}, listing.state.question),
       h('p', {}, `${listing.world.title}, ${new Date().toLocaleDateString()}. ${listing.summary}.`),
       listing.picture(names),
-      h('table', {}, h('thead', {}, h('tr', {}, listing.columns.map((name) => h('th', {}, name)))), h('tbody', {}, rows.slice(0, PRINTED_ROWS).map(tableRow))),
-      rows.length > PRINTED_ROWS && h('p', {}, `The first ${grouped(PRINTED_ROWS)} of ${grouped(rows.length)} rows; the CSV file has all.`),
+      table(listing.columns, rows.slice(0, PRINTED_ROWS)),
+      rows.length > PRINTED_ROWS && h('p', {}, `${grouped(PRINTED_ROWS)} of ${grouped(rows.length)} rows; the CSV file has all.`),
     );
   }
 }
-
-const tableRow = (row) => h('tr', {}, row.map((cell) => h('td', {}, String(cell))));

@@ -8,7 +8,9 @@ const FILLS = ['#cfe3f5', '#fbe3c0', '#d5edcf', '#f6d3d5', '#e2d8f0', '#f3efb5',
 /** The colour of a label: the same in every picture. */
 export const fillOf = (label) => (typeof label === 'number' && label >= 1 ? FILLS[(label - 1) % FILLS.length] : '#eeeeee');
 
-export const shownConditions = (conditions) => conditionsText(conditions).replaceAll('<=', '≤').replaceAll('>=', '≥').replaceAll('value ', '');
+/** Conditions as they are drawn. */
+export const shownConditions = (conditions) =>
+  conditionsText(conditions).replaceAll('<=', '≤').replaceAll('>=', '≥').replaceAll('value ', '');
 
 /** A text that fits so many characters. */
 export const clipped = (text, most) => (text.length > most ? `${text.slice(0, most - 1)}…` : text);

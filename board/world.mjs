@@ -26,21 +26,26 @@ export class World {
 
 export function showWorld(world) {
   const { nodes, edges, constraints } = world.counts;
-  const told = [counted(nodes, 'node', 'nodes'), counted(edges, 'edge', 'edges'), counted(constraints, 'constraint', 'constraints')].join(', ');
+  const told = [[nodes, 'node'], [edges, 'edge'], [constraints, 'constraint']].map(([count, one]) => counted(count, one, `${one}s`));
+  const why = h('span', { class: 'soft' }, ': building it afresh gives the same bytes');
+  const list = h('ul', {}, world.constraints.map((one) => h('li', {}, world.names.constraint(one))));
   replace(
     find('world'),
-    h('div', { class: 'row' },
+    h(
+      'div',
+      { class: 'row' },
       h('strong', {}, world.title),
-      h('span', { id: 'admitted' }, h('span', { class: 'admitted' }, 'admitted'), h('span', { class: 'soft' }, ': building it afresh gives the same bytes')),
-      h('details', {},
-        h('summary', {}, `${told}`),
-        h('ul', {}, world.constraints.map((one) => h('li', {}, world.names.constraint(one)))))),
+      h('span', { id: 'admitted' }, h('span', { class: 'admitted' }, 'admitted'), why),
+      h('details', {}, h('summary', {}, told.join(', ')), list),
+    ),
   );
 }
 
 /** Says that nothing was opened, and why; the world before it stays open. */
 export function showRefusedWorld(title, { answer, sentence, advice, detail = [] }) {
-  find('world').prepend(warning(h('p', {}, h('strong', {}, `${title} is refused with ${answer}: `), sentence), ...detail.map((line) => h('p', {}, line)), h('p', {}, `${advice[0].toUpperCase()}${advice.slice(1)}.`)));
+  const head = h('p', {}, h('strong', {}, `${title} is refused with ${answer}: `), sentence);
+  const lines = [...detail, `${advice[0].toUpperCase()}${advice.slice(1)}.`].map((line) => h('p', {}, line));
+  find('world').prepend(warning(head, ...lines));
 }
 
 export function showWrong(title, reason) {
@@ -52,12 +57,39 @@ function warning(...lines) {
   return h('div', { class: 'refusal', role: 'alert' }, ...lines);
 }
 
-export function showProgress(title, { step, done, of }, stop) {
-  const world = find('world'), bar = world.querySelector('progress');
-  if (bar) {
-    bar.value = done + 0.5;
-    find('step').textContent = step;
-    return;
+const SLOW = 100; // so many milliseconds pass before progress is shown
+
+/** What is being done, once it takes long. */
+export class Progress {
+  constructor(title, stop) {
+    Object.assign(this, { title, stop, step: null, isShown: false });
+    this.late = setTimeout(() => this.show(), SLOW);
   }
-  replace(world, h('div', { class: 'row' }, h('strong', {}, title), h('progress', { max: of, value: done + 0.5, 'aria-label': 'Progress' }), h('span', { id: 'step', class: 'soft' }, step), h('button', { class: 'quiet', onclick: stop }, 'Stop')));
+
+  tell(step) {
+    this.step = step;
+    if (this.isShown) this.show();
+  }
+
+  show() {
+    const { step = 'starting', done = 0, of = 1 } = this.step ?? {};
+    this.isShown = true;
+    replace(
+      find('world'),
+      h(
+        'div',
+        { class: 'row' },
+        h('strong', {}, this.title),
+        h('progress', { max: of, value: done + 0.5, 'aria-label': 'Progress' }),
+        h('span', { class: 'soft' }, step),
+        h('button', { class: 'quiet', 'data-key': 'stop', onclick: this.stop }, 'Stop'),
+      ),
+    );
+  }
+
+  /** Whether it was shown. */
+  end() {
+    clearTimeout(this.late);
+    return this.isShown;
+  }
 }

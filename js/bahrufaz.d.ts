@@ -152,6 +152,9 @@ export declare function conditionsText(conditions: Condition[]): string;
 /** The text of a file's bytes; throws WrongText where they are no UTF-8. */
 export declare function textOfBytes(bytes: Uint8Array, file: string): string;
 
+export declare const MIN_VALUE: number;
+export declare const MAX_VALUE: number;
+
 /** A whole number with commas between its thousands. */
 export declare function grouped(number: number | bigint): string;
 

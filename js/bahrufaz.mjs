@@ -14,4 +14,4 @@ export { Graph, graphOfText } from './graph.mjs';
 export { Pattern, conditionsText, patternOfText } from './pattern.mjs';
 export { Names, Naming, namesOfText } from './names.mjs';
 export { Wrong, WrongText, grouped, textOfBytes } from './text.mjs';
-export { constraintsOf, countsOf, draftBytes, edgesOf, nodesOf, patternBytes } from './records.mjs';
+export { MAX_VALUE, MIN_VALUE, constraintsOf, countsOf, draftBytes, edgesOf, nodesOf, patternBytes } from './records.mjs';

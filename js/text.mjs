@@ -161,7 +161,7 @@ export function spelled(name) {
 }
 
 // characters that take two places
-const WIDE = /[\u1100-\u115f\u2e80-\u303e\u3041-\ua4cf\uac00-\ud7a3\uf900-\ufaff\ufe30-\ufe6f\uff00-\uff60\uffe0-\uffe6\u{1f300}-\u{1faff}\u{20000}-\u{3fffd}]/u;
+const WIDE = /[\u1100-\u115f\u2e80-\ua4cf\uac00-\ud7a3\uf900-\ufaff\ufe30-\ufe6f\uff00-\uff60\uffe0-\uffe6\u{1f300}-\u{3fffd}]/u;
 
 function textWidth(text) {
   return [...text].reduce((width, c) => width + (/\p{M}/u.test(c) ? 0 : WIDE.test(c) ? 2 : 1), 0);

@@ -22,4 +22,4 @@ if ! is_ready; then
     echo "board-test: NOT RUN, there is no chromium with its driver and python3-selenium here"
     exit 0
 fi
-exec "$(with_selenium)" -m unittest discover --quiet --start-directory tests/board --top-level-directory tests/board
+exec "$(with_selenium)" -m unittest discover --verbose --start-directory tests/board --top-level-directory tests/board

@@ -10,4 +10,4 @@ fi
 node --test js/tests/ >target/wasm/tests || { cat target/wasm/tests; exit 1; }
 grep '^# pass' target/wasm/tests
 BAHRUFAZ_SERVE="$PWD/js/serve.mjs" BAHRUFAZ_CALLS="$*" \
-    cargo test --release --offline --quiet --manifest-path tests/Cargo.toml --test boundary -- --nocapture --test-threads 2
+    cargo test --release --offline --manifest-path tests/Cargo.toml --test boundary -- --nocapture

@@ -3,7 +3,8 @@
 import assert from 'node:assert/strict';
 import fs from 'node:fs';
 import test from 'node:test';
-import { Library, constraintsOf, countsOf, draftBytes, graphOfText, matchesOf, namesOfText, patternBytes, patternOfText } from '../bahrufaz.mjs';
+import { Library, constraintsOf, countsOf, draftBytes, matchesOf, patternBytes } from '../bahrufaz.mjs';
+import { graphOfText, namesOfText, patternOfText } from '../bahrufaz.mjs';
 import { sha256 } from '../sha256.mjs';
 
 const read = (path) => fs.readFileSync(new URL(`../../${path}`, import.meta.url));
@@ -82,7 +83,8 @@ test('rooms of the caller are left as the rules say', () => {
 });
 
 test('a room for matches grows as it must', () => {
-  const big = graphOfText('label x\n' + Array.from({ length: 300 }, (_, n) => `node n${n} x\n`).join('') + 'constraint -> x at most 300\n');
+  const nodes = Array.from({ length: 300 }, (_, n) => `node n${n} x\n`).join('');
+  const big = graphOfText(`label x\n${nodes}constraint -> x at most 300\n`);
   const two = patternBytes([{ label: 1, conditions: [] }, { label: 1, conditions: [] }], []);
   const listed = library.list(big.build(library).store, two);
   assert.equal(listed.matches, 300 * 299);

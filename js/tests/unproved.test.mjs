@@ -21,8 +21,9 @@ function* drawn(seed) {
 function randomCase(seed) {
   const numbers = drawn(seed), below = (limit) => numbers.next().value % limit;
   const pattern = { nodes: nodes(...Array.from({ length: 1 + below(5) }, () => 1 + below(3))), edges: [] };
-  const count = pattern.nodes.length;
-  for (let from = 0; from < count; from++) for (let to = 0; to < count; to++) if (from !== to && below(3) === 0) pattern.edges.push([from, to]);
+  pattern.nodes.forEach((_, from) => {
+    for (let to = 0; to < pattern.nodes.length; to++) if (from !== to && below(3) === 0) pattern.edges.push([from, to]);
+  });
   const constraints = [];
   for (const key of [[], [1], [2], [3], [1, 2], [2, 3], [1, 2, 3]])
     for (const label of [1, 2, 3]) if (below(3) === 0) constraints.push(rule(key, label, 1 + below(below(8) ? 5 : 60_000)));

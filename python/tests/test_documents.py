@@ -95,11 +95,12 @@ class Texts(unittest.TestCase):
 
 class Mentions(unittest.TestCase):
     def test_make_targets_are_there(self):
-        makefile = (CHECKOUT / "Makefile").read_text(encoding="utf-8")
-        targets = {name for line in re.findall(r"^([a-z][a-z ]*):", makefile, re.MULTILINE) for name in line.split()}
+        makefiles = [CHECKOUT / "Makefile", CHECKOUT / "board" / "board.mk"]
+        text = "".join(makefile.read_text(encoding="utf-8") for makefile in makefiles)
+        targets = {name for line in re.findall(r"^([a-z][a-z -]*):", text, re.MULTILINE) for name in line.split()}
         for document in documents():
             text = document.read_text(encoding="utf-8")
-            for name in re.findall(r"(?:`|^    |^\$ )make ([a-z]+)", text, re.MULTILINE):
+            for name in re.findall(r"(?:`|^    |^\$ )make ([a-z][a-z-]*)", text, re.MULTILINE):
                 self.assertIn(name, targets, document.name)
 
     def test_links_lead_somewhere(self):

@@ -24,7 +24,8 @@ PATIENCE = 40  # seconds: the machine may be busy
 
 
 class _Quiet(http.server.SimpleHTTPRequestHandler):
-    extensions_map = {**http.server.SimpleHTTPRequestHandler.extensions_map, ".mjs": "text/javascript", ".wasm": "application/wasm"}
+    _KINDS = {".mjs": "text/javascript", ".wasm": "application/wasm"}
+    extensions_map = {**http.server.SimpleHTTPRequestHandler.extensions_map, **_KINDS}
 
     def log_message(self, *_):
         pass
@@ -111,7 +112,8 @@ class Browser:
     def middle(self, selector: str) -> tuple[int, int]:
         """Where an element's middle is, once it is in sight; the board is brought there whole."""
         place = self.run(
-            "const e = document.querySelector(arguments[0]); (e.closest('#canvas') ?? e).scrollIntoView({block: 'center', behavior: 'instant'});"
+            "const e = document.querySelector(arguments[0]);"
+            "(e.closest('#canvas') ?? e).scrollIntoView({block: 'center', behavior: 'instant'});"
             "const r = e.getBoundingClientRect(); return [r.left + r.width / 2, r.top + r.height / 2]",
             selector,
         )

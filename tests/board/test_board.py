@@ -10,6 +10,7 @@ from pathlib import Path
 
 from browser import CHECKOUT, PAGE, Browser, Server
 from selenium.webdriver.common.keys import Keys
+from selenium.webdriver.support.ui import Select
 
 EXAMPLES = CHECKOUT / "examples"
 NODE = '[data-key="node {}"]'
@@ -44,13 +45,15 @@ class Page(unittest.TestCase):
         """A place on the board, from parts of its width and height."""
         self.browser.middle("#canvas")
         left, top, width, height = self.browser.run(
-            "const r = document.querySelector('#canvas').getBoundingClientRect(); return [r.left, r.top, r.width, r.height]"
+            "const r = document.querySelector('#canvas').getBoundingClientRect();"
+            "return [r.left, r.top, r.width, r.height]"
         )
         return int(left + x * width), int(top + y * height)
 
     def choose_label(self, name):
         self.browser.wait("#chooser[open]")
-        labels = self.browser.run("return [...document.querySelectorAll('#chooser-labels button')].map(b => b.firstChild.textContent)")
+        buttons = "document.querySelectorAll('#chooser-labels button')"
+        labels = self.browser.run(f"return [...{buttons}].map(b => b.firstChild.textContent)")
         self.tap(f"#chooser-labels button:nth-child({labels.index(name) + 1})")
 
     def add_by_touch(self, label, x, y):
@@ -112,7 +115,7 @@ class Touch(Page):
         self.connect_by_touch(2, 1)
         self.assert_text("#t", "22")
         self.tap(NODE.format(0) + " .box")
-        self.browser.run("const s = document.querySelector('#operator-0'); s.value = '='; s.dispatchEvent(new Event('change'))")
+        Select(self.browser.wait("#operator-0")).select_by_visible_text("=")
         self.tap("#constant-0")
         self.browser.keys("2", Keys.TAB)
         self.assertEqual(self.state()["nodes"][0]["conditions"], [{"operator": "=", "constant": 2}])
@@ -198,7 +201,8 @@ class Drawing(Page):
         opened = self.state()
         for one, other in zip(drawn["nodes"], opened["nodes"]):
             self.assertAlmostEqual(one["x"], other["x"], 2)
-            self.assertEqual((one["name"], one["label"], one["conditions"]), (other["name"], other["label"], other["conditions"]))
+            for member in ("name", "label", "conditions"):
+                self.assertEqual(one[member], other[member])
         self.assertEqual((opened["edges"], opened["question"]), (drawn["edges"], drawn["question"]))
 
     def test_one_s_own_patterns_are_there_again_when_the_page_is(self):
@@ -206,6 +210,28 @@ class Drawing(Page):
         self.add_by_touch("screen", 0.5, 0.5)
         self.browser.open(self.server.url)
         self.assert_text("#patterns", "pattern 1")
+
+    def test_an_arrow_is_tapped(self):
+        self.browser.finger(self.browser.middle('[data-key="edge 1"] .figure'))
+        self.assert_text("#inspector", "field → format")
+
+    def test_patterns_are_named_and_removed(self):
+        self.tap("#title")
+        self.browser.keys(Keys.CONTROL, "a")
+        self.browser.keys("the comma", Keys.TAB)
+        self.assert_text("#patterns .current", "the comma")
+        self.tap("#new-pattern")
+        self.assert_text("#patterns .current", "pattern 1")
+        self.tap("#remove-pattern")
+        self.assert_text("#patterns .current", "the comma")
+        self.assertEqual(len(self.browser.all("#patterns li")), 1)
+
+    def test_a_chooser_can_be_left(self):
+        self.tap("#add-node")
+        self.browser.wait("#chooser[open]")
+        self.browser.keys(Keys.ESCAPE)
+        self.browser.until(lambda: not self.browser.all("#chooser[open]"), "no chooser")
+        self.assertEqual(len(self.names()), 4)
 
     def test_a_ninth_node_is_not_offered(self):
         self.tap("#new-pattern")
@@ -226,10 +252,11 @@ class Knowing(Page):
         self.assert_text("#t", "Not covered")
         self.assertTrue(self.browser.all(".node.red"))
         self.assertTrue(self.browser.all("#list[disabled]"))
-        self.assert_text("#why", "node caption“locale, field -> caption at most 1” would, from a covered locale that it is joined with.")
+        remedy = "“locale, field -> caption at most 1” would, from a covered locale that it is joined with."
+        self.assert_text("#why", f"node caption{remedy}")
 
     def test_a_bound_above_the_limit_names_the_step_that_multiplies(self):
-        feed = "label a\nlabel b\nnode x a\nnode y b\nedge x -> y\nconstraint -> a at most 400\nconstraint a -> b at most 900\n"
+        feed = "label a\nlabel b\nnode x a\nconstraint -> a at most 400\nconstraint a -> b at most 900\n"
         self.open_world(self.written("wide.feed", feed))
         self.add_by_touch("a", 0.3, 0.5)
         self.assert_text("#t", "400")
@@ -243,7 +270,8 @@ class Knowing(Page):
         self.assertTrue(self.browser.all("#list[disabled]"))
 
     def test_figures_stand_at_nodes_and_edges(self):
-        badges = self.browser.run("return [...document.querySelectorAll('.badge text, .figure text')].map(t => t.textContent).sort()")
+        figures = "document.querySelectorAll('.badge text, .figure text')"
+        badges = self.browser.run(f"return [...{figures}].map(t => t.textContent).sort()")
         self.assertEqual(badges, ["≤ 2", "≤ 2", "≤ 2", "≤ 8", "≤ 8", "≤ 8", "≤ 8"])
 
     def test_a_label_that_the_world_has_not_is_told(self):
@@ -256,8 +284,9 @@ class Listing(Page):
         self.tap("[data-world=panel]")
         self.assert_text("#t", "276")
         self.tap("#list-all")
-        for status in ("21 matches, T 276", "2 matches, T 220", "4 matches, T 276", "18 matches, T 920", "6 matches, T 916", "24 matches, T 604", "4 matches, T 204", "not covered"):
-            self.assert_text("#patterns", status)
+        for place, (matches, bound) in enumerate([(21, 276), (2, 220), (4, 276), (18, 920), (6, 916), (24, 604), (4, 204)]):
+            self.assert_text(f'[data-key="choose {place}"]', f"{matches} matches, T {bound}")
+        self.assert_text('[data-key="choose 7"]', "not covered")
         self.tap('[data-key="tick 0"]')
         self.assertTrue(self.browser.all("#patterns li.done"))
 
@@ -275,13 +304,15 @@ class Listing(Page):
         self.browser.keys("weight")
         self.assertEqual([row[0] for row in self.rows()], ["sv.weight", "fr.weight", "de.weight"])
         self.tap("#csv")
-        self.assertEqual(self.browser.kept("1-comma-fields.csv").split("\n")[:2], ["field,sign,market,screen", "sv.weight,sv.decimal,sv-SE,sv.weighing"])
+        kept = self.browser.kept("1-comma-fields.csv").split("\n")
+        self.assertEqual(kept[:2], ["field,sign,market,screen", "sv.weight,sv.decimal,sv-SE,sv.weighing"])
         self.tap("#json")
         told = json.loads(self.browser.kept("1-comma-fields.json"))
         self.assertEqual((told["answer"], told["matches"], told["bound"], len(told["rows"])), (0, 21, 276, 21))
         self.tap("#view-pictures")
         self.assertEqual(len(self.browser.all(".pictures .picture")), 3)
-        self.assertEqual(self.browser.run("return document.querySelector('.pictures .picture').getAttribute('aria-label')"), "sv.weight, sv.decimal, sv-SE, sv.weighing")
+        said = self.browser.wait(".pictures .picture").get_attribute("aria-label")
+        self.assertEqual(said, "sv.weight, sv.decimal, sv-SE, sv.weighing")
 
     def test_a_page_is_printed(self):
         self.tap("#list")
@@ -291,7 +322,8 @@ class Listing(Page):
         self.browser.driver.execute_cdp_cmd("Emulation.setEmulatedMedia", {"media": "print"})
         shown = self.browser.run("return document.body.innerText")
         self.browser.driver.execute_cdp_cmd("Emulation.setEmulatedMedia", {"media": ""})
-        for wanted in ("Pattern A: the fields that use a format of locale 2", "The small world", "1 match; 8 entries read of at most 38", "feeding"):
+        question, read = "Pattern A: the fields that use a format of locale 2", "1 match; 8 entries read of at most 38"
+        for wanted in (question, "The small world", read, "feeding"):
             self.assertIn(wanted, shown)
         self.assertNotIn("Open a world", shown)
 
@@ -302,11 +334,19 @@ class Listing(Page):
         self.tap("#remove")
         self.assertTrue(self.browser.all("#results[hidden]"))
 
+    def test_another_world_takes_the_old_list_away(self):
+        self.tap("#list")
+        self.assert_text("#summary", "1 match")
+        self.tap("[data-world=panel]")
+        self.assert_text("#t", "276")
+        self.assertTrue(self.browser.all("#results[hidden]"))
+
     def test_the_story_of_the_weight_field(self):
         self.tap("[data-world=weight]")
         self.assert_text("#story", "25 kg")
         self.tap("#compare")
-        self.assert_text("#missing", "old-list has 18 fields, 1-comma-fields has 21. Missing from the old list: de.weight, sv.weight, fr.weight.")
+        self.assert_text("#missing", "old-list has 18 fields, 1-comma-fields has 21.")
+        self.assert_text("#missing", "Missing from the old list: de.weight, sv.weight, fr.weight.")
 
 
 class Files(Page):
@@ -385,7 +425,8 @@ class Files(Page):
 
 def large_feed(count: int) -> str:
     """Screens with 7 fields each, so many nodes in all; only the first 1,000 screens bear the label that is asked for."""
-    lines = ["label screen", "label field", "label old", "constraint -> screen at most 1000", "constraint screen -> field at most 8"]
+    lines = ["label screen", "label field", "label old"]
+    lines += ["constraint -> screen at most 1000", "constraint screen -> field at most 8"]
     screen = ""
     for node in range(count):
         if node % 8 == 0:
@@ -425,7 +466,8 @@ class Offline(Page):
     def test_the_page_works_when_the_server_is_gone(self):
         server = Server()
         self.browser.open(server.url)
-        self.browser.until(lambda: self.browser.run("return navigator.serviceWorker.controller !== null"), "a service worker")
+        controlled = "return navigator.serviceWorker.controller !== null"
+        self.browser.until(lambda: self.browser.run(controlled), "a service worker")
         server.stop()
         self.browser.open(server.url)
         self.tap("[data-world=panel]")
