@@ -1,6 +1,6 @@
 # make run: the small world built, planned and listed. make quick: what a day's edits may have broken.
 # make test: everything that must hold; its last line is rt ci's own.
-.PHONY: run test quick kit telling reading lib install desk near here serve boundary compared fuzz bench
+.PHONY: run test quick kit telling reading programs lib install desk near here serve boundary compared fuzz bench
 
 # how many crates, and must-fail edits, are proved at a time: a level ends with its slowest, so more at a time than processors leaves these idle for less of it
 export RT_JOBS ?= 6
@@ -48,6 +48,11 @@ telling:
 # the second reading's own tests; they need no library
 reading:
 	cargo test --release --offline --manifest-path tests/Cargo.toml --lib --test small_world --test seeds --test large
+
+# the program of the rules, on files that are too long, missing or unreadable
+programs:
+	rt check run_panel
+	python3 tests/programs.py
 
 # the library; include/bahrufaz.h says what it has: for x86-64 in target/staticlib, for the processor at hand in target/lib
 LIB = target/staticlib/libbahrufaz.a target/lib/libbahrufaz.a target/lib/libbahrufaz.so

@@ -6,8 +6,8 @@ cd "$(dirname "$0")/../.."
 # a make or cargo below takes no orders that were meant for the make above
 unset MAKEFLAGS MFLAGS
 tell=tests/gate/tell.py
-# the steps that need the library
-after="boundary desk wasm-test board-test"
+# the steps that need what was proved
+after="programs boundary desk wasm-test board-test"
 began=$(date +%s)
 
 # rt ci removes target/ when it starts, so the logs come there last

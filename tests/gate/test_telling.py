@@ -231,7 +231,7 @@ class LastLine(InRepository):
         self.assertIn("rt: words proved", (self.root / "target/gate/proofs.log").read_text())
 
     def test_it_does_not_come_where_anything_fails(self):
-        for step in ("kit", "format", "contracts", "telling", "reading", "proofs", "lib", "boundary", "desk", "wasm-test", "board-test"):
+        for step in ("kit", "format", "contracts", "telling", "reading", "proofs", "lib", "programs", "boundary", "desk", "wasm-test", "board-test"):
             with self.subTest(step):
                 shutil.rmtree(self.root / "tests", ignore_errors=True)
                 status, lines = self.gate(step)

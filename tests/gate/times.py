@@ -23,6 +23,7 @@ WORDS = {
     "reading": "the second reading's own tests, beside the proofs",
     "proofs": "`rt ci`: every crate, every must-fail edit, every program",
     "library": "the archive and the libraries, of what was proved",
+    "programs": "the program of the rules, on files that are too long, missing or unreadable",
     "boundary": "the library's calls against the second reading",
     "desk": "what stands before the library: command, Rust, C, installing",
     "wasm-test": "the library as WebAssembly: in node, and against the second reading",
