@@ -167,7 +167,9 @@ def _add_text(command: argparse.ArgumentParser) -> None:
 def _add_pattern_command(command: argparse.ArgumentParser) -> None:
     _add_pattern(command)
     _add_store(command, "?")
-    command.add_argument("-o", "--output", metavar="FILE", help="the bytes, or the .pat file; a text else goes to standard output")
+    command.add_argument(
+        "-o", "--output", metavar="FILE", help="the bytes, or the .pat file; a text else goes to standard output"
+    )
     _add_force(command)
 
 

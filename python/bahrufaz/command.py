@@ -3,13 +3,9 @@
 from __future__ import annotations
 
 import argparse
-import codecs
-import contextlib
-import json
-import os
 import sys
 from pathlib import Path
-from typing import Iterable, Sequence
+from typing import Sequence
 
 from . import arguments, calls, draw, importing, listing, outputs, tables
 from .dot import Picture
@@ -34,38 +30,54 @@ from .reading import (
     store_of,
     store_of_bytes,
 )
-from .records import MAX_CONSTRAINTS, MAX_STORE_BYTES
+from .records import MAX_CONSTRAINTS, MAX_STORE_BYTES, Constraint
+from .speaking import (
+    ANSWERED,
+    INTERRUPTED,
+    REFUSED,
+    WRONG_USE,
+    abandon_stdout,
+    complain,
+    emit,
+    prepare_streams,
+    tell_refusal,
+)
 from .store import AdmittedStore, Store
-from .text import MAX_TEXT_BYTES, visible_lines
+from .text import MAX_TEXT_BYTES
 from .wrong import Wrong
-
-ANSWERED, REFUSED, WRONG_USE = 0, 1, 2
-INTERRUPTED = 130
 
 
 def main(given: Sequence[str] | None = None) -> int:
     """Runs one command; 0 answered, 1 refused, 2 wrong use."""
-    _prepare_streams()
-    as_json = False
+    prepare_streams()
     try:
-        asked = arguments.parser().parse_args(given)
-        as_json = getattr(asked, "json", False)
-        _check_streams(asked)
-        status = _COMMANDS[asked.command](asked)
-        sys.stdout.flush()
+        status = _run(given)
+        if sys.stdout:
+            sys.stdout.flush()
         return status
-    except Refused as refused:
-        _tell_refusal(refused, as_json)
-        return REFUSED
     except BrokenPipeError:  # the reader has seen enough
-        _abandon_stdout()
+        abandon_stdout()
         return ANSWERED
     except KeyboardInterrupt:
         return INTERRUPTED
     except OSError as error:
         if not error.filename:
-            _abandon_stdout()
+            abandon_stdout()
         complain(f"{error.filename or 'standard output'}: {error.strerror or error}")
+        return WRONG_USE
+
+
+def _run(given: Sequence[str] | None) -> int:
+    try:
+        asked = arguments.parser().parse_args(given)
+    except SystemExit as left:  # after --help, or with what is wrong about the arguments told
+        return WRONG_USE if left.code else ANSWERED
+    try:
+        _check_streams(asked)
+        return _COMMANDS[asked.command](asked)
+    except Refused as refused:
+        tell_refusal(refused, getattr(asked, "json", False))
+        return REFUSED
     except MemoryError as error:
         complain(str(error) or "there is not enough memory for this")
     except Wrong as error:
@@ -73,59 +85,11 @@ def main(given: Sequence[str] | None = None) -> int:
     return WRONG_USE
 
 
-def _abandon_stdout() -> None:
-    """What could not be written is not tried again at the end."""
-    with contextlib.suppress(OSError):
-        os.dup2(os.open(os.devnull, os.O_WRONLY), sys.stdout.fileno())
-
-
-def _prepare_streams() -> None:
-    """What a terminal cannot show is written as in JSON; files and pipes get UTF-8, as the text forms are."""
-    codecs.register_error("as in JSON", _as_in_json)
-    if sys.stderr is None:  # closed: what would be said there is not said
-        sys.stderr = open(os.devnull, "w", encoding="utf-8")
-    for stream in (sys.stdout, sys.stderr):
-        if hasattr(stream, "reconfigure"):
-            stream.reconfigure(encoding=None if stream.isatty() else "utf-8", errors="as in JSON")
-
-
-def _as_in_json(error: UnicodeError) -> tuple[str, int]:
-    """What cannot be written, in the escapes of JSON."""
-    if not isinstance(error, UnicodeEncodeError):
-        raise error
-    return json.dumps(error.object[error.start : error.end])[1:-1], error.end
-
-
 def _check_streams(asked: argparse.Namespace) -> None:
     if sys.stdout is None:
         raise Wrong("standard output is closed")
     if outputs.inputs_of(asked).count(STDIN) > 1:
         raise Wrong("standard input can be read once: '-' stands for one file")
-
-
-def complain(message: str) -> None:
-    _tell(f"bahrufaz: {line}" for line in visible_lines(message).split("\n"))
-
-
-def _tell(lines: Iterable[str]) -> None:
-    """Says lines on standard error; where nobody can hear them, they are not said."""
-    try:
-        sys.stderr.writelines(f"{line}\n" for line in lines)
-        sys.stderr.flush()
-    except OSError:
-        sys.stderr = open(os.devnull, "w", encoding="utf-8")
-
-
-def _tell_refusal(refused: Refused, as_json: bool) -> None:
-    if as_json:
-        emit(tables.refusal_json(refused))
-    complain(str(refused))
-    _tell(f"  {line}" for line in visible_lines(f"{refused.detail}\n{refused.advice}").split("\n") if line)
-
-
-def emit(lines: Iterable[str]) -> None:
-    """Prints lines as they are made."""
-    sys.stdout.writelines(f"{line}\n" for line in lines)
 
 
 def _say(asked: argparse.Namespace, told: str) -> None:
@@ -187,17 +151,9 @@ def _plan(asked: argparse.Namespace) -> int:
 def _show(asked: argparse.Namespace) -> int:
     store = listing.trusted_store(asked)
     if asked.json:
-        listing.warn_unchecked(store, complain)
+        listing.warn_unchecked(store)
     emit(tables.store_json(store) if asked.json else tables.store_text(store))
     return ANSWERED
-
-
-def _list(asked: argparse.Namespace) -> int:
-    return listing.list_command(asked, emit, complain)
-
-
-def _compare(asked: argparse.Namespace) -> int:
-    return listing.compare_command(asked, emit, complain)
 
 
 def _report(asked: argparse.Namespace) -> int:
@@ -268,7 +224,7 @@ def _picture(asked: argparse.Namespace) -> Picture:
             return draw.draw_plan(calls.plan(store, pattern), title)
     store = listing.trusted_store(asked)
     found = listing.listed(asked, store, pattern, asked.pattern)
-    listing.warn_unchecked(store, complain)
+    listing.warn_unchecked(store)
     return draw.draw_matches(found, asked.most, asked.near, title)
 
 
@@ -295,31 +251,44 @@ def _measure(asked: argparse.Namespace) -> int:
     data = bytes_of(asked.graph, MAX_TEXT_BYTES)
     with working(f"measuring {shown(asked.graph)}"):
         graph = graph_of(asked.graph, data)
-        patterns = [pattern_of(path) for path in asked.patterns or []]
-        with about(asked.graph, ", ".join(asked.patterns or [])):
-            found = measure_for(graph, patterns) if patterns else measure(graph)
-    lines = [f"constraint {graph.names.constraint(one)}" for one in found]
+        lines = [f"constraint {graph.names.constraint(one)}" for one in _measured(asked, graph)]
     in_all = len(graph.constraints) + len(lines)
-    if in_all > MAX_CONSTRAINTS:
-        told = f"{in_all} constraints in all, and a store has at most {MAX_CONSTRAINTS}: say by --for PATTERN .. what they are for"
-        if asked.output:
-            raise Wrong(told)
-        complain(told)
+    _check_number(in_all, asked)
     if not asked.output:
         emit(lines)
         return ANSWERED
     text = data.decode("utf-8-sig")
-    outputs.put(asked.output, text + ("" if text.endswith("\n") else "\n") + "".join(f"{line}\n" for line in lines))
+    end = "" if text.endswith("\n") else "\n"
+    outputs.put(asked.output, text + end + "".join(f"{line}\n" for line in lines))
     _say(asked, f"{tables.counted(len(lines), 'constraint', 'constraints')} added, {in_all} in all")
     return ANSWERED
+
+
+def _measured(asked: argparse.Namespace, graph: Graph) -> list[Constraint]:
+    """The constraints that hold: those for the patterns that are named, or all."""
+    if not asked.patterns:
+        return measure(graph)
+    patterns = [pattern_of(path) for path in asked.patterns]
+    with about(asked.graph, ", ".join(asked.patterns)):
+        return measure_for(graph, patterns)
+
+
+def _check_number(in_all: int, asked: argparse.Namespace) -> None:
+    """More constraints than a store has can be shown, but not written into a file."""
+    if in_all > MAX_CONSTRAINTS:
+        told = f"{in_all} constraints in all, and a store has at most {MAX_CONSTRAINTS}"
+        told += ": say by --for PATTERN .. what they are for"
+        if asked.output:
+            raise Wrong(told)
+        complain(told)
 
 
 _COMMANDS = {
     "build": _build,
     "admit": _admit,
     "plan": _plan,
-    "list": _list,
-    "compare": _compare,
+    "list": listing.list_command,
+    "compare": listing.compare_command,
     "report": _report,
     "show": _show,
     "draw": _draw,

@@ -5,7 +5,7 @@ from __future__ import annotations
 import argparse
 import sys
 from pathlib import Path
-from typing import Callable, Iterable, Iterator, NamedTuple
+from typing import Iterable, Iterator, NamedTuple
 
 from . import calls, library, tables
 from .comparing import Compared, compare
@@ -13,13 +13,10 @@ from .numbers import Refused
 from .progress import working
 from .reading import about, names_hint, order_of, pattern_of, store_of
 from .report import Chapter, report
+from .speaking import ANSWERED, REFUSED, WRONG_USE, complain, emit
 from .store import AdmittedStore, Store
 from .text import visible
 from .wrong import Wrong
-
-Emit = Callable[[Iterable[str]], None]
-Complain = Callable[[str], None]
-ANSWERED, REFUSED, WRONG_USE = 0, 1, 2
 
 
 def trusted_store(asked: argparse.Namespace) -> Store:
@@ -36,7 +33,7 @@ def trusted_store(asked: argparse.Namespace) -> Store:
             raise
 
 
-def warn_unchecked(store: Store, complain: Complain) -> None:
+def warn_unchecked(store: Store) -> None:
     """For answers that a program or a picture viewer reads, beside the answer itself."""
     if not isinstance(store, AdmittedStore):
         complain(tables.UNCHECKED)
@@ -69,16 +66,16 @@ def _room_needed(store: Store, pattern: calls.Pattern, room: int) -> str:
     return f"{matches:,} matches of {len(pattern.nodes)} nodes take {words:,} words: --room {words}"
 
 
-def list_command(asked: argparse.Namespace, emit: Emit, complain: Complain) -> int:
+def list_command(asked: argparse.Namespace) -> int:
     if asked.count:
-        return _count_command(asked, emit, complain)
+        return _count_command(asked)
     if len(asked.pattern) > 1:
         raise Wrong("more than one pattern is given: use --count, or list them one by one")
     path = asked.pattern[0]
     pattern = pattern_of(path, order_of(asked))
     found = listed(asked, trusted_store(asked), pattern, path)
     if asked.json or asked.csv:
-        warn_unchecked(found.store, complain)
+        warn_unchecked(found.store)
     if asked.json:
         emit(tables.listing_json(found, asked.ids, asked.limit))
     elif asked.csv:
@@ -105,7 +102,7 @@ class Counted(NamedTuple):
     why: str
 
 
-def _count_command(asked: argparse.Namespace, emit: Emit, complain: Complain) -> int:
+def _count_command(asked: argparse.Namespace) -> int:
     """A line for each pattern: its answer, and how much was found and read."""
     if asked.ids or asked.limit is not None:
         raise Wrong("--count shows no matches: leave out --ids and --limit")
@@ -113,7 +110,7 @@ def _count_command(asked: argparse.Namespace, emit: Emit, complain: Complain) ->
     rows = list(map(_counted, chapters(asked, store)))
     head = ("pattern", "answer", "matches", "read", "T", "why" if asked.csv else "")
     if asked.json or asked.csv:
-        warn_unchecked(store, complain)
+        warn_unchecked(store)
     if asked.json:
         members = [{name: value for name, value in row._asdict().items() if value != ""} for row in rows]
         emit(tables.json_lines({"answer": 0, "admitted": isinstance(store, AdmittedStore), "patterns": members}))
@@ -164,7 +161,7 @@ def report_command(asked: argparse.Namespace) -> tuple[str, int]:
     return report(f"Report on {Path(asked.store).name}", store, told, asked.limit), worst(map(_counted, told))
 
 
-def compare_command(asked: argparse.Namespace, emit: Emit, complain: Complain) -> int:
+def compare_command(asked: argparse.Namespace) -> int:
     """What one pattern lists and the other does not."""
     store = trusted_store(asked)
     first, second = (listed(asked, store, pattern_of(path), path) for path in (asked.first, asked.second))
@@ -174,7 +171,7 @@ def compare_command(asked: argparse.Namespace, emit: Emit, complain: Complain) -
         names = [asked.first, asked.second]
     rows = [(name, *row) for name, part in zip(names, compared[2:]) for row in part]
     if asked.json or asked.csv:
-        warn_unchecked(store, complain)
+        warn_unchecked(store)
     if asked.json:
         emit(_compared_json(store, compared, names, rows))
     elif asked.csv:

@@ -19,7 +19,8 @@ from .report import REPORT_HEAD
 from .wrong import Wrong
 
 STDOUT = "-"
-_INPUTS = ("graph", "store", "pattern", "first", "second", "patterns", "file", "nodes", "names")  # arguments that name a file to be read
+# the arguments that name a file to be read
+_INPUTS = ("graph", "store", "pattern", "first", "second", "patterns", "file", "nodes", "names")
 STORE, PATTERN, NAMES, REPORT = "a store", "a pattern", "a file of names", "a report"
 # what the name of a file says that it is, by its ending; the texts are read as such by every command
 _TEXTS = {".feed": "the text of a graph", ".pat": "the text of a pattern", ".names": NAMES}

@@ -71,7 +71,8 @@ def _trust(store: Store) -> str:
 
 
 def _overview(chapters: Sequence[Chapter]) -> str:
-    return table(("", "pattern", "question", "matches", "read", "T"), map(_overview_row, range(1, len(chapters) + 1), chapters), (3, 4, 5))
+    rows = (_overview_row(place, chapter) for place, chapter in enumerate(chapters, 1))
+    return table(("", "pattern", "question", "matches", "read", "T"), rows, (3, 4, 5))
 
 
 def _overview_row(place: int, chapter: Chapter) -> tuple[object, ...]:
@@ -84,7 +85,8 @@ def _overview_row(place: int, chapter: Chapter) -> tuple[object, ...]:
 
 
 def _section(place: int, store: Store, chapter: Chapter, limit: int) -> str:
-    return "\n".join([f'<section id="p{place}"><h2>{place}. {plain(chapter.name)}</h2>', *_told(store, chapter, limit), "</section>"])
+    head = f'<section id="p{place}"><h2>{place}. {plain(chapter.name)}</h2>'
+    return "\n".join([head, *_told(store, chapter, limit), "</section>"])
 
 
 def _told(store: Store, chapter: Chapter, limit: int) -> Iterator[str]:
@@ -120,7 +122,8 @@ def _figure(pattern: Pattern, store: Store) -> str:
 def _answer(listing: Listing, limit: int) -> Iterator[str]:
     yield f"<h3>T = {listing.bound:,}: at most {tables.counted(listing.bound, 'entry', 'entries')} read</h3>"
     part = 100 * listing.entries // max(listing.bound, 1)
-    yield f'<p>{listing.entries:,} were read, {part} in a hundred of that.</p><div class="bar"><i style="width:{part}%"></i></div>'
+    yield f"<p>{listing.entries:,} were read, {part} in a hundred of that.</p>"
+    yield f'<div class="bar"><i style="width:{part}%"></i></div>'
     yield _steps(plan(listing.store, listing.pattern))
     yield f"<h3>{plain(tables.matches_text(listing, limit))}</h3>"
     if listing.matches:

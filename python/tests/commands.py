@@ -28,10 +28,7 @@ class CommandCase(unittest.TestCase):
     def run_command(self, *arguments: str) -> tuple[int, str, str]:
         out, err = io.StringIO(), io.StringIO()
         with contextlib.redirect_stdout(out), contextlib.redirect_stderr(err):
-            try:
-                status = main(arguments)
-            except SystemExit as left:
-                status = left.code
+            status = main(arguments)
         return status, out.getvalue(), err.getvalue()
 
     def answer(self, *arguments: str) -> str:

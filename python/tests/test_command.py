@@ -214,13 +214,15 @@ class Commands(CommandCase):
             self.assertEqual(self.run_command("admit", self.built()), (130, "", ""))
 
     def test_a_closed_pipe_is_no_error(self):
-        command = [sys.executable, "-m", "bahrufaz", "text", "world.feed"]
-        environment = {"PATH": os.environ["PATH"], "PYTHONPATH": str(CHECKOUT / "python")}
-        read_end, write_end = os.pipe()
-        os.close(read_end)
-        with os.fdopen(write_end, "wb") as closed:
-            done = subprocess.run(command, stdout=closed, stderr=subprocess.PIPE, env=environment, check=False)
-        self.assertEqual((done.returncode, done.stderr), (0, b""))
+        Path("only.pat").write_text("node a screen\n")
+        for arguments in (["text", "world.feed"], ["list", "--json", "world.feed", "only.pat"], ["--help"]):
+            command = [sys.executable, "-m", "bahrufaz", *arguments]
+            environment = {"PATH": os.environ["PATH"], "PYTHONPATH": str(CHECKOUT / "python")}
+            read_end, write_end = os.pipe()
+            os.close(read_end)
+            with os.fdopen(write_end, "wb") as closed:
+                done = subprocess.run(command, stdout=closed, stderr=subprocess.PIPE, env=environment, check=False)
+            self.assertEqual((done.returncode, b"Traceback" in done.stderr, b"ignored" in done.stderr), (0, False, False), arguments)
 
 
 class TheLibrary(unittest.TestCase):
