@@ -16,7 +16,7 @@ from .wrong import Wrong
 PICTURES = {".dot": "a DOT text", ".svg": "an SVG picture", ".png": "a PNG picture", ".pdf": "a PDF picture"}
 GREY = "#808080"
 _FILLS = ("#cfe3f5", "#fbe3c0", "#d5edcf", "#f6d3d5", "#e2d8f0", "#f3efb5", "#cdeeea", "#e8dccf")
-_TITLE_WIDTH = 90
+_TITLE_WIDTH = 100
 _PAGE = (7.7, 11.0)  # inches that a printed page has inside its margins
 
 
@@ -86,7 +86,7 @@ def _heading(title: Sequence[str], legend: Mapping[str, str]) -> str:
 def _wrapped(text: str) -> str:
     """Lines of about the same length."""
     text = visible(text)
-    lines = len(text) // _TITLE_WIDTH + 1
+    lines = max(len(text) - 1, 0) // _TITLE_WIDTH + 1
     return "<BR/>".join(map(_escaped, textwrap.wrap(text, len(text) // lines + 10) or [""]))
 
 
