@@ -119,6 +119,13 @@ class Sentences(unittest.TestCase):
         self.assertTrue(sentence("build", 1).endswith("also g or e not 0"))
 
 
+class Boundary(unittest.TestCase):
+    def test_the_upper_half_of_matches_is_the_result_that_the_header_says(self):
+        header = (CHECKOUT / "include" / "bahrufaz.h").read_text()
+        place = re.search(r"BAHRUFAZ_LIST_MATCHES_UPPER = (\d+)", header)[1]
+        self.assertEqual(bahrufaz.library.UPPER_MATCHES, int(place))
+
+
 class Names(unittest.TestCase):
     def test_every_name_is_there_and_told_to_type_checkers(self):
         for name in bahrufaz.__all__:
