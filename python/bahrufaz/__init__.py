@@ -42,6 +42,7 @@ _MODULES = {
     "draw": ("draw_matches", "draw_pattern", "draw_plan"),
     "graph": ("Graph", "Node"),
     "importing": ("Imported", "Keys", "from_networkx", "import_csv", "import_graphml", "to_networkx"),
+    "library": (),
     "measuring": ("measure", "measure_for"),
     "names": ("Names",),
     "numbers": ("Refused",),
@@ -57,6 +58,8 @@ __all__ = sorted(_PLACES)  # noqa: PLE0605
 
 
 def __getattr__(name: str) -> object:
+    if name in _MODULES:
+        return importlib.import_module(f".{name}", __name__)
     if name not in _PLACES:
         raise AttributeError(f"module {__name__} has no attribute {name}")
     module, own = _PLACES[name]

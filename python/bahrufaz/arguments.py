@@ -58,7 +58,7 @@ def _add_store(command: argparse.ArgumentParser, nargs: Any = None) -> None:
 def _add_names(command: argparse.ArgumentParser) -> None:
     group = command.add_mutually_exclusive_group()
     group.add_argument("--names", metavar="FILE", help="names from this .names or .feed file, not from beside the store")
-    group.add_argument("--no-names", action="store_true", help="show ids and label numbers")
+    group.add_argument("--no-names", action="store_true", help="leave names out: ids and label numbers are shown")
 
 
 def _add_pattern(command: argparse.ArgumentParser, nargs: Any = None) -> None:

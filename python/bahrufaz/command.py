@@ -102,7 +102,7 @@ def _build(asked: argparse.Namespace) -> int:
     outputs.check_bytes(asked, outputs.STORE)
     with working(f"building {shown(asked.graph)}"):
         store = _built(asked)
-    if asked.output == outputs.STDOUT:
+    if by_content(asked.output):  # a pipe has nothing beside it
         outputs.put(asked.output, store.data)
         names = None
     else:

@@ -21,6 +21,7 @@ WHOLE_NUMBER = re.compile(r"-?[0-9]+")
 # what a terminal would act on, or not show: control characters, zero-width and direction marks, line separators
 _HIDDEN = re.compile("[\x00-\x1f\x7f-\x9f\u200b-\u200f\u2028-\u202e\u2066-\u2069\ufeff\ud800-\udfff]")
 _MOST_ALIKE = 10_000
+_UTF_16 = (b"\xff\xfe", b"\xfe\xff")  # what such a text begins with
 
 
 def read_text(path: str | Path) -> str:
@@ -36,7 +37,8 @@ def text_of(data: bytes, path: str | Path) -> str:
         text = data.decode("utf-8-sig")
     except UnicodeDecodeError as error:
         line = data[: error.start].count(b"\n") + 1
-        raise WrongText(str(path), line, "expected UTF-8 text, found other bytes") from None
+        found = "UTF-16: save it as UTF-8" if data.startswith(_UTF_16) else "other bytes"
+        raise WrongText(str(path), line, f"expected UTF-8 text, found {found}") from None
     return text.replace("\r\n", "\n").replace("\r", "\n") if "\r" in text else text
 
 

@@ -133,6 +133,8 @@ class Names(unittest.TestCase):
             self.assertIn(name, dir(bahrufaz))
         with self.assertRaises(AttributeError):
             bahrufaz.nothing
+        script = "import bahrufaz; bahrufaz.library.find"
+        subprocess.run([sys.executable, "-c", script], env={"PYTHONPATH": str(CHECKOUT / "python")}, check=True)
         text = (CHECKOUT / "python" / "bahrufaz" / "__init__.py").read_text()
         imported = re.search(r"^if TYPE_CHECKING:\n((?:    .*\n)+)", text, re.MULTILINE)[1]
         told = [name.split(" as ")[-1] for line in imported.splitlines() for name in line.split(" import ")[1].split(", ")]

@@ -75,6 +75,7 @@ class Streams(CommandCase):
 
         expected = self.answer("list", "world.feed", "a.pat")
         self.assertEqual(shell("bahrufaz list <(cat world.feed) <(cat a.pat)"), (0, expected))
+        self.assertEqual(shell("mkfifo p; cat p >got.store & bahrufaz build world.feed -o p && wait && bahrufaz admit got.store")[0], 0)
         self.assertEqual(shell("bahrufaz list world.feed a.pat >&-"), (2, "bahrufaz: standard output is closed\n"))
         self.assertEqual(shell("bahrufaz list - a.pat <&-"), (2, "bahrufaz: standard input is closed\n"))
         self.assertEqual(shell("bahrufaz list none.feed a.pat 2>&-"), (2, ""))

@@ -262,6 +262,9 @@ class FeedErrors(unittest.TestCase):
             path.write_bytes(b"label a\nlabel \xff")
             with self.assertRaisesRegex(WrongText, "w.feed:2: expected UTF-8 text, found other bytes"):
                 Graph.read(path)
+            path.write_text("label a\n", encoding="utf-16")
+            with self.assertRaisesRegex(WrongText, "w.feed:1: expected UTF-8 text, found UTF-16: save it as UTF-8"):
+                Graph.read(path)
 
 
 class PatternErrors(unittest.TestCase):

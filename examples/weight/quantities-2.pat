@@ -1,0 +1,16 @@
+# Which further quantities are worked out from those of quantities-1.pat, and in which reports do they stand?
+
+node market   locale   value = 2
+node sign     format   value = 44
+node field    field
+node screen   screen   value = 11
+node quantity quantity
+node further  quantity
+node report   report
+
+edge market   -> sign
+edge field    -> sign
+edge screen   -> field
+edge field    -> quantity
+edge quantity -> further
+edge further  -> report
