@@ -77,7 +77,7 @@ export function numberOf(token) {
 }
 
 /** The tokens of one line, taken one after another; errors name file and line. */
-export class Line {
+class Line {
   constructor(file, line, tokens) {
     Object.assign(this, { file, line, tokens, at: 0 });
   }
