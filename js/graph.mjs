@@ -140,7 +140,7 @@ function feedConstraintLine(line, graph) {
   if (!line.skip('->')) {
     key.push(meant(line.take('a label or ->')));
     while (line.skip(',')) key.push(meant(line.take('a label')));
-    if (!line.skip('->')) throw line.expected('a comma or ->');
+    line.want('->');
   }
   const label = meant(line.take('a label'));
   line.want('at', 'most');
@@ -161,12 +161,12 @@ function standInNode(name, graph) {
   graph.addNode(name === '' || graph.names.nodes.has(name) ? null : name, 1);
 }
 
-const MOST_FEED_LINES = { label: MAX_LABEL, node: MAX_NODES, no: 1, edge: MAX_EDGES, constraint: MAX_CONSTRAINTS };
+const MOST_FEED_LINES = { label: MAX_LABEL, node: MAX_NODES, no: MAX_NODES, edge: MAX_EDGES, constraint: MAX_CONSTRAINTS };
 
 /** The graph of a .feed text; labels, nodes, edges and constraints may stand in any order. */
 export function graphOfText(text, file = 'text') {
   const graph = new Graph(), mistakes = new Mistakes(file);
-  const lines = sortedLines(text, MOST_FEED_LINES, 'label, node, edge or constraint', mistakes);
+  const lines = sortedLines(text, MOST_FEED_LINES, 'label, node, edge or constraint', mistakes, 'a store');
   takeLines(lines.get('label'), feedLabelLine, graph, mistakes, standInLabel);
   takeLines(lines.get('node'), feedNodeLine, graph, mistakes, standInNode);
   takeLines(lines.get('no'), noNodesLine, graph, mistakes);

@@ -34,8 +34,9 @@ function reasonOf(error) {
   throw error;
 }
 
-/** The lines that say something, numbered, by their kinds, which are their first words: so many at most of each. */
-export function sortedLines(text, most, what, mistakes) {
+/** The lines that say something, numbered, by their kinds, which are their first words: as many at most of each as
+ * that which the text is of can have. */
+export function sortedLines(text, most, what, mistakes, of) {
   const found = new Map(Object.keys(most).map((kind) => [kind, []]));
   for (const [place, line] of text.split('\n').entries()) {
     const word = firstWord(line);
@@ -44,7 +45,7 @@ export function sortedLines(text, most, what, mistakes) {
     if (kind === null) continue;
     found.get(kind).push([place + 1, line]);
     if (found.get(kind).length <= most[kind]) continue;
-    mistakes.add(place + 1, `there are at most ${grouped(most[kind])} ${kind} lines`);
+    mistakes.add(place + 1, `${of} has at most ${grouped(most[kind])} ${kind}s`);
     mistakes.tell();
   }
   return found;

@@ -142,7 +142,7 @@ const MOST_PAT_LINES = { label: MAX_LABEL, node: MAX_PATTERN_NODES, edge: MAX_PA
 export function patternOfText(text, file = 'text') {
   const pattern = new Pattern(), mistakes = new Mistakes(file);
   pattern.file = file;
-  const lines = sortedLines(text, MOST_PAT_LINES, 'label, node or edge', mistakes);
+  const lines = sortedLines(text, MOST_PAT_LINES, 'label, node or edge', mistakes, 'a pattern');
   takeLines(lines.get('label'), patLabelLine, pattern, mistakes, standInPatLabel);
   takeLines(lines.get('node'), patNodeLine, pattern, mistakes, standInPatNode);
   takeLines(lines.get('edge'), (line) => pattern.addEdge(...takeEdge(line)), pattern, mistakes);

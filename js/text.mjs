@@ -38,9 +38,11 @@ const WHOLE_NUMBER = /^-?[0-9]+$/;
 const LONE_SURROGATE = /[\ud800-\udfff]/u;
 // what a terminal would act on, or not show: control characters, zero-width and direction marks, line separators
 const HIDDEN = /[\x00-\x1f\x7f-\x9f\u200b-\u200f\u2028-\u202e\u2066-\u2069\ufeff]/gu;
+const UTF_16 = [0xfffe, 0xfeff]; // what such a text begins with
 const MAX_TEXT_BYTES = 2 ** 28;
 const MAX_LINE = 100_000;
 const SHOWN = 60; // characters of what was found, in a message
+const BEGINS_A_NAME = /^[\p{L}\p{N}]/u;
 const KEYWORDS = ['value', 'and', 'at', 'most', 'or'];
 const SIGNS = { '→': '->', '≤': '<=', '≥': '>=' };
 const DIGITS = 20; // so many are beyond every range, however many follow
@@ -95,8 +97,9 @@ class Line {
   quotesHint() {
     const at = this.at === 3 && this.tokens[0].text === 'node' ? 2 : this.at;
     const words = this.tokens.slice(Math.max(at - 1, 1), at + 1);
-    if (words.length < 2 || words.some((word) => word.kind !== 'word' || numberOf(word) !== null)) return '';
-    if (KEYWORDS.includes(this.nextText())) return '';
+    const isPlain = (word) => word?.kind === 'word' && numberOf(word) === null;
+    if (words.length < 2 || ![...words, this.peek()].every(isPlain)) return '';
+    if (!BEGINS_A_NAME.test(this.nextText()) || KEYWORDS.includes(this.nextText())) return '';
     return `; a name with a blank in it is quoted, as ${shortened(spelled(words.map(({ text }) => text).join(' ')))}`;
   }
 
@@ -191,7 +194,8 @@ export function textOfBytes(bytes, file) {
   try {
     return new TextDecoder('utf-8', { fatal: true }).decode(bytes).replace(/\r\n?/g, '\n');
   } catch {
-    throw new WrongText(file, firstBadLine(bytes), 'expected UTF-8 text, found other bytes');
+    const found = UTF_16.includes(bytes[0] * 256 + bytes[1]) ? 'UTF-16: save it as UTF-8' : 'other bytes';
+    throw new WrongText(file, firstBadLine(bytes), `expected UTF-8 text, found ${found}`);
   }
 }
 
