@@ -18,5 +18,5 @@ target/board/index.html: $(WASM) $(wildcard board/* js/*.mjs) $(shell find examp
 	node board/assemble.mjs $(WASM) target/board
 
 # the page in a browser; where there is none and none can be had, this says so
-board-test: board
+board-test: wasm
 	tests/board.sh

@@ -22,7 +22,7 @@ function asFunction(name, text, needs) {
 }
 
 /** A plain script of a module and all that it imports, in the order in which they are needed. */
-export function script(entry, read) {
+function script(entry, read) {
   const parts = new Map();
   const take = (name) => {
     if (parts.has(name)) return;

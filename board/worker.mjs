@@ -1,6 +1,6 @@
 // The worker: makes the calls that may take long, and keeps nothing but the library.
 
-import { Library, Wrong } from '../js/bahrufaz.mjs';
+import { Library } from '../js/bahrufaz.mjs';
 import { openWorld } from './opening.mjs';
 
 const MOST_WORDS = 1 << 22; // matches beyond 16 MiB are no list for a person
@@ -13,7 +13,7 @@ function work({ kind, files, store, pattern }, tell) {
 }
 
 /** Answers what the page asks; errors of the files come back as their sentence. */
-export function serveWork(scope) {
+function serveWork(scope) {
   scope.onmessage = async ({ data: { id, module, ...asked } }) => {
     if (module) {
       ready = Library.load(module);
@@ -22,9 +22,9 @@ export function serveWork(scope) {
     try {
       scope.postMessage({ id, result: await work(asked, (progress) => scope.postMessage({ id, progress })) });
     } catch (error) {
-      scope.postMessage({ id, wrong: error.message, expected: error instanceof Wrong });
+      scope.postMessage({ id, wrong: error.message });
     }
   };
 }
 
-if (typeof document === 'undefined') serveWork(globalThis);
+serveWork(globalThis);

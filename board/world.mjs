@@ -49,7 +49,9 @@ export function showRefusedWorld(title, { answer, sentence, advice, detail = [] 
 }
 
 export function showWrong(title, reason) {
-  find('world').prepend(warning(h('p', {}, h('strong', {}, `${title} cannot be opened: `), reason)));
+  const [first, ...more] = reason.split('\n');
+  const lines = more.map((line) => h('p', {}, line));
+  find('world').prepend(warning(h('p', {}, h('strong', {}, `${title} cannot be opened: `), first), ...lines));
 }
 
 function warning(...lines) {

@@ -3,6 +3,7 @@
 import { spelled } from './text.mjs';
 
 const NEAR = 0.6;
+const MOST_ALIKE = 10_000;
 
 /** The longest run that stands in both parts, the first of equals: where it starts in each, and its length. */
 function longestRun(one, other, [a, aEnd, b, bEnd]) {
@@ -40,12 +41,23 @@ function isLater(one, other) {
   return at >= 0 && (at >= other.length || one[at].codePointAt(0) > other[at].codePointAt(0));
 }
 
+/** The names that are about as long, and begin or end alike. */
+function near(wanted, names) {
+  const found = [];
+  for (const name of names) {
+    const characters = [...name];
+    const isNear = Math.abs(characters.length - wanted.length) <= 2;
+    if (isNear && (characters[0] === wanted[0] || characters.at(-1) === wanted.at(-1))) found.push(characters);
+    if (found.length === MOST_ALIKE) break;
+  }
+  return found;
+}
+
 /** '; did you mean ..?', or nothing. */
 export function alike(name, names) {
   const wanted = [...name];
   let best = null, most = NEAR;
-  for (const had of names) {
-    const characters = [...had];
+  for (const characters of near(wanted, names)) {
     const score = likeness(characters, wanted);
     if (score < most || (score === most && best && !isLater(characters, best))) continue;
     [best, most] = [characters, score];

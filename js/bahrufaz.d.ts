@@ -75,6 +75,8 @@ export declare class WrongText extends Wrong {
   file: string;
   line: number;
   reason: string;
+  /** All that is wrong with the text, in line order; line and reason are those of the first. */
+  mistakes: WrongText[];
 }
 
 /** Names of numbered things. */

@@ -1,6 +1,6 @@
 // A graph with its constraints: made in code, or read from a .feed text.
 
-import { linesByKind, meant, takeEdge, takeLabelName, takeLines, takeNodeName } from './lines.mjs';
+import { Mistakes, meant, sortedLines, takeEdge, takeLabelName, takeLines, takeNodeName } from './lines.mjs';
 import { Names } from './names.mjs';
 import {
   MAX_CONSTRAINTS,
@@ -14,14 +14,7 @@ import {
   draftBytes,
   groupsOf,
 } from './records.mjs';
-import { Wrong, WrongText, grouped, spelled } from './text.mjs';
-
-/** The number, if it may be that. */
-function within(what, number, low, high) {
-  if (!(low <= number && number <= high))
-    throw new Wrong(`${what} is ${grouped(number)}, and must be from ${grouped(low)} to ${grouped(high)}`);
-  return number;
-}
+import { Wrong, grouped, spelled, within } from './text.mjs';
 
 const sameLabels = (one, other) => one.label === other.label && String(one.keyLabels) === String(other.keyLabels);
 
@@ -38,9 +31,9 @@ export class Graph {
 
   /** Names a label; without a number it takes the one after the label added before. */
   addLabel(name, number = null) {
-    const wanted = number ?? this.lastLabel + 1;
-    this.lastLabel = within('the number of a label', wanted, 1, MAX_LABEL);
+    const wanted = within('the number of a label', number ?? this.lastLabel + 1, 1, MAX_LABEL);
     this.names.labels.add(wanted, name);
+    this.lastLabel = wanted;
   }
 
   label(label) {
@@ -156,19 +149,31 @@ function feedConstraintLine(line, graph) {
   graph.addConstraint(key, label, most);
 }
 
-const FEED_LINES = {
-  label: feedLabelLine,
-  node: feedNodeLine,
-  no: noNodesLine,
-  edge: (line, graph) => graph.addEdge(...takeEdge(line)),
-  constraint: feedConstraintLine,
-};
+/** A label of this name and a number that nothing has. */
+function standInLabel(name, { names: { labels } }) {
+  if (name === '' || labels.has(name)) return;
+  let number = MAX_LABEL;
+  while (labels.names.has(number)) number -= 1;
+  labels.add(number, name);
+}
 
-/** The graph of a .feed text. */
+function standInNode(name, graph) {
+  graph.addNode(name === '' || graph.names.nodes.has(name) ? null : name, 1);
+}
+
+const MOST_FEED_LINES = { label: MAX_LABEL, node: MAX_NODES, no: MAX_NODES, edge: MAX_EDGES, constraint: MAX_CONSTRAINTS };
+
+/** The graph of a .feed text; labels, nodes, edges and constraints may stand in any order. */
 export function graphOfText(text, file = 'text') {
-  const graph = new Graph(), { lines, last } = linesByKind(text, file, FEED_LINES, 'label, node, edge or constraint');
+  const graph = new Graph(), mistakes = new Mistakes(file);
+  const lines = sortedLines(text, MOST_FEED_LINES, 'label, node, edge or constraint', mistakes, 'a store');
+  takeLines(lines.get('label'), feedLabelLine, graph, mistakes, standInLabel);
+  takeLines(lines.get('node'), feedNodeLine, graph, mistakes, standInNode);
+  takeLines(lines.get('no'), noNodesLine, graph, mistakes);
+  takeLines(lines.get('edge'), (line) => graph.addEdge(...takeEdge(line)), graph, mistakes);
+  takeLines(lines.get('constraint'), feedConstraintLine, graph, mistakes);
   if (!lines.get('node').length && !lines.get('no').length)
-    throw new WrongText(file, last, "expected a node line: a graph without nodes says so, by the line 'no nodes'");
-  takeLines(lines, FEED_LINES, graph);
+    mistakes.addIfNone(lines, "expected a node line: a graph without nodes says so, by the line 'no nodes'");
+  mistakes.tell();
   return graph;
 }

@@ -2,12 +2,11 @@
 
 import { ANSWERED, refusal } from './numbers.mjs';
 
-export const RESULT_WORDS = 8;
-/** Where listing has the upper half of the number of matches. */
-export const UPPER_MATCHES = 7;
-export const PLAN_WORDS = 512; // always enough for the rows of a plan
-export const ROW_WORDS = 8;
-export const MOST_ROOM_WORDS = 1 << 25; // 128 MiB
+const RESULT_WORDS = 8;
+const UPPER_MATCHES = 7; // where listing has the upper half of the number of matches
+const PLAN_WORDS = 512; // always enough for the rows of a plan
+const ROW_WORDS = 8;
+const MOST_ROOM_WORDS = 1 << 25; // 128 MiB
 const FIRST_ROOM_WORDS = 1 << 16;
 const INDEX_BYTES = 24 * 262_144 + 8 * 1_048_576;
 const NO_CHOSEN = 255;

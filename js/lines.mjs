@@ -1,22 +1,89 @@
-// Lines that .feed and .pat have in common.
+// Lines that .feed and .pat have in common, and the mistakes in them.
 
-import { inLine } from './names.mjs';
-import { linesOf, numberOf } from './text.mjs';
+import { Wrong, WrongText, WrongTexts, firstWord, grouped, lineOf, numberOf } from './text.mjs';
 
-/** The lines of a text by kind, so that their order is free, and the last line that says something. */
-export function linesByKind(text, file, takers, kinds) {
-  const lines = new Map(Object.keys(takers).map((kind) => [kind, []]));
-  let last = 1;
-  for (const line of linesOf(text, file)) {
-    lines.get(line.choose([...lines.keys()], kinds)).push(line);
-    last = line.line;
+const MOST_MISTAKES = 1_000;
+
+/** The mistakes of one text, which are told at once and in line order. */
+export class Mistakes {
+  constructor(file) {
+    Object.assign(this, { file, found: [] });
   }
-  return { lines, last };
+
+  add(line, reason) {
+    this.found.push(new WrongText(this.file, line, reason));
+    if (this.found.length === MOST_MISTAKES) this.tell();
+  }
+
+  /** A mistake of the whole text, at its last line, where no line has one of its own. */
+  addIfNone(lines, reason) {
+    const last = Math.max(1, ...[...lines.values()].map((part) => part.at(-1)?.[0] ?? 1));
+    if (!this.found.length) this.add(last, reason);
+  }
+
+  /** Throws what was found. */
+  tell() {
+    if (this.found.length) throw new WrongTexts(this.found.sort((one, other) => one.line - other.line));
+  }
 }
 
-/** Takes lines kind by kind. */
-export function takeLines(lines, takers, into) {
-  for (const [kind, found] of lines) for (const line of found) inLine(line, () => takers[kind](line, into));
+/** The reason of what is wrong with a text, a graph or a name; any other error goes on. */
+function reasonOf(error) {
+  if (error instanceof WrongText) return error.reason;
+  if (error instanceof Wrong) return error.message;
+  throw error;
+}
+
+/** The lines that say something, numbered, by their kinds, which are their first words: as many at most of each as
+ * that which the text is of can have. */
+export function sortedLines(text, most, what, mistakes, of) {
+  const found = new Map(Object.keys(most).map((kind) => [kind, []]));
+  for (const [place, line] of text.split('\n').entries()) {
+    const word = firstWord(line);
+    if (word === undefined || word.startsWith('#')) continue;
+    const kind = found.has(word) ? word : chosenKind(line, place + 1, [...found.keys()], what, mistakes);
+    if (kind === null) continue;
+    found.get(kind).push([place + 1, line]);
+    if (found.get(kind).length <= most[kind]) continue;
+    mistakes.add(place + 1, `${of} has at most ${grouped(most[kind])} ${kind}s`);
+    mistakes.tell();
+  }
+  return found;
+}
+
+/** The kind of a line whose first word is not divided from the next by a blank; null where it has none. */
+function chosenKind(line, number, kinds, what, mistakes) {
+  try {
+    return lineOf(line, mistakes.file, number).choose(kinds, what);
+  } catch (error) {
+    mistakes.add(number, reasonOf(error));
+    return null;
+  }
+}
+
+/** Takes each line into the target. What is wrong is a mistake of its line; the name that it would have given stands
+ * all the same, so that the lines which use it are not wrong too. */
+export function takeLines(lines, take, target, mistakes, standIn = () => {}) {
+  for (const [number, text] of lines) {
+    let name = '';
+    try {
+      const line = lineOf(text, mistakes.file, number);
+      line.take('its kind');
+      name = line.nextText();
+      take(line, target);
+    } catch (error) {
+      mistakes.add(number, reasonOf(error));
+      stand(standIn, name, target);
+    }
+  }
+}
+
+function stand(standIn, name, target) {
+  try {
+    standIn(name, target);
+  } catch (error) {
+    reasonOf(error);
+  }
 }
 
 /** A name; a bare number is a number. */

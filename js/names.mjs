@@ -3,7 +3,10 @@
 import { alike } from './alike.mjs';
 import { MAX_LABEL, MAX_NODES } from './records.mjs';
 import { sha256 } from './sha256.mjs';
-import { Wrong, WrongText, isName, linesOf, spelled } from './text.mjs';
+import { Wrong, WrongText, grouped, isName, lengthOf, lineOf, shortened, spelled } from './text.mjs';
+
+const MAX_NAME = 1_000;
+const MOST_LINES = 2 * (MAX_LABEL + MAX_NODES);
 
 /** Names of numbered things, each once; where there is no name, the number stands for it. */
 export class Naming {
@@ -15,6 +18,8 @@ export class Naming {
 
   add(number, name) {
     if (!isName(name)) throw new Wrong('a name has at least one character, all of them Unicode');
+    if (lengthOf(name) > MAX_NAME)
+      throw new Wrong(`a name has at most ${grouped(MAX_NAME)} characters, and this has ${grouped(lengthOf(name))}`);
     if (this.numbers.has(name))
       throw new Wrong(`${this.what} ${spelled(name)} is there already, with number ${this.numbers.get(name)}`);
     if (this.names.has(number)) throw new Wrong(`${this.what} ${number} has the name ${this.spelled(number)} already`);
@@ -40,7 +45,7 @@ export class Naming {
   number(named) {
     if (typeof named !== 'string') return named;
     if (!this.numbers.has(named))
-      throw new Wrong(`no ${this.what} is named ${spelled(named)}${alike(named, this.numbers.keys())}`);
+      throw new Wrong(`no ${this.what} is named ${shortened(spelled(named))}${alike(named, this.numbers.keys())}`);
     return this.numbers.get(named);
   }
 
@@ -66,9 +71,12 @@ export class Names {
 
 /** The names of a store, from a .names text; an error where the text is of another store. */
 export function namesOfText(text, file, store) {
-  const names = new Names();
+  const names = new Names(), lines = text.split('\n');
+  if (lines.length - 1 > MOST_LINES) throw new Wrong(`${file}: a file of names has at most ${grouped(MOST_LINES)} lines`);
   let said = false;
-  for (const line of linesOf(text, file)) {
+  for (const [place, content] of lines.entries()) {
+    const line = lineOf(content, file, place + 1);
+    if (!line.peek()) continue;
     const kind = line.choose(['store', 'label', 'node'], 'store, label or node');
     if (kind === 'store') {
       checkSum(line, store);
@@ -90,14 +98,9 @@ function checkSum(line, store) {
 function takeName(line, naming, low, high) {
   const name = line.take(`the name of a ${naming.what}`).text;
   const number = line.wholeNumber(`the number of ${naming.what} ${spelled(name)}`, low, high);
-  inLine(line, () => naming.add(number, name));
-}
-
-/** What is wrong with a graph or a name, said with the line that says it. */
-export function inLine(line, work) {
   try {
-    work();
+    naming.add(number, name);
   } catch (error) {
-    throw error instanceof WrongText || !(error instanceof Wrong) ? error : line.error(error.message);
+    throw error instanceof Wrong ? line.error(error.message) : error;
   }
 }

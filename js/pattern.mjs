@@ -1,11 +1,17 @@
 // A pattern: made in code, or read from a .pat text. docs/FORMATS.md specifies the text.
 
-import { linesByKind, takeEdge, takeLabelName, takeLines, takeNodeName } from './lines.mjs';
+import { Mistakes, sortedLines, takeEdge, takeLabelName, takeLines, takeNodeName } from './lines.mjs';
 import { Naming } from './names.mjs';
-import { MAX_CONDITIONS, MAX_LABEL, MAX_PATTERN_NODES, MAX_VALUE, MIN_VALUE, OPERATORS, byEnds, patternBytes } from './records.mjs';
-import { Wrong, WrongText, aligned, numberOf, spelled } from './text.mjs';
+import { MAX_CONDITIONS, MAX_LABEL, MAX_PATTERN_EDGES, MAX_PATTERN_NODES } from './records.mjs';
+import { MAX_VALUE, MIN_VALUE, OPERATORS, byEnds, patternBytes } from './records.mjs';
+import { Wrong, aligned, numberOf, spelled, within } from './text.mjs';
 
-const isConstant = (number) => Number.isInteger(number) && MIN_VALUE <= number && number <= MAX_VALUE;
+/** Refuses a condition that no pattern can hold. */
+function checkCondition({ operator, constant }) {
+  if (!OPERATORS.includes(operator))
+    throw new Wrong(`a condition has one of the signs ${OPERATORS.join(' ')}, and not '${operator}'`);
+  within('a constant', constant, MIN_VALUE, MAX_VALUE);
+}
 
 /** Nodes and edges that are looked for. Labels by name get their numbers from a store's names. */
 export class Pattern {
@@ -14,14 +20,15 @@ export class Pattern {
     this.names = new Naming('pattern node');
     this.nodes = [];
     this.edges = [];
+    this.file = null; // where a text says what a label is, and what a node is
+    this.lines = new Map();
   }
 
   /** Adds a node with its label, by name or number, and conditions {operator, constant}; null leaves it without a name. */
   addNode(name, label, conditions = []) {
+    if (typeof label !== 'string') within('the number of a label', label, 1, MAX_LABEL);
+    conditions.forEach(checkCondition);
     if (conditions.length > MAX_CONDITIONS) throw new Wrong(`a pattern node has at most ${MAX_CONDITIONS} conditions`);
-    for (const { operator, constant } of conditions)
-      if (!OPERATORS.includes(operator) || !isConstant(constant))
-        throw new Wrong(`'value ${operator} ${constant}' is no condition`);
     if (this.nodes.length === MAX_PATTERN_NODES) throw new Wrong(`a pattern has at most ${MAX_PATTERN_NODES} nodes`);
     if (name !== null) this.names.add(this.nodes.length, name);
     this.nodes.push({ label, conditions });
@@ -53,10 +60,18 @@ export class Pattern {
 
   /** The bytes of the pattern; names give the numbers of labels that the pattern names. */
   encode(names = null) {
-    return patternBytes(
-      this.nodes.map(({ label, conditions }) => ({ label: this.labelNumber(label, names), conditions })),
-      this.edges,
-    );
+    const mistakes = new Mistakes(this.file);
+    const nodes = this.nodes.map(({ label, conditions }, place) => {
+      try {
+        return { label: this.labelNumber(label, names), conditions };
+      } catch (error) {
+        if (this.file === null) throw error;
+        mistakes.add(this.lines.get(label) ?? this.lines.get(place), error.message);
+        return null;
+      }
+    });
+    mistakes.tell();
+    return patternBytes(nodes, this.edges);
   }
 
   labelNumber(label, names) {
@@ -94,6 +109,7 @@ function patLabelLine(line, pattern) {
   const name = takeLabelName(line);
   pattern.labels.add(line.wholeNumber(`the number of label ${spelled(name)}`, 1, MAX_LABEL), name);
   line.end();
+  pattern.lines.set(name, line.line);
 }
 
 function patNodeLine(line, pattern) {
@@ -103,6 +119,7 @@ function patNodeLine(line, pattern) {
   while (line.skip('and')) conditions.push(takeCondition(line));
   line.end();
   pattern.addNode(name, label, conditions);
+  pattern.lines.set(pattern.nodes.length - 1, line.line);
 }
 
 function takeCondition(line) {
@@ -111,16 +128,25 @@ function takeCondition(line) {
   return { operator, constant: line.wholeNumber('a constant', MIN_VALUE, MAX_VALUE) };
 }
 
-const PAT_LINES = {
-  label: patLabelLine,
-  node: patNodeLine,
-  edge: (line, pattern) => pattern.addEdge(...takeEdge(line)),
-};
+function standInPatLabel(name, { labels }) {
+  if (!labels.has(name)) labels.add(-labels.names.size, name);
+}
+
+function standInPatNode(name, pattern) {
+  pattern.addNode(name === '' || pattern.names.has(name) ? null : name, 1);
+}
+
+const MOST_PAT_LINES = { label: MAX_LABEL, node: MAX_PATTERN_NODES, edge: MAX_PATTERN_EDGES };
 
 /** The pattern of a .pat text. */
 export function patternOfText(text, file = 'text') {
-  const pattern = new Pattern(), { lines, last } = linesByKind(text, file, PAT_LINES, 'label, node or edge');
-  takeLines(lines, PAT_LINES, pattern);
-  if (!pattern.nodes.length) throw new WrongText(file, last, 'expected a node line: a pattern has at least one node');
+  const pattern = new Pattern(), mistakes = new Mistakes(file);
+  pattern.file = file;
+  const lines = sortedLines(text, MOST_PAT_LINES, 'label, node or edge', mistakes, 'a pattern');
+  takeLines(lines.get('label'), patLabelLine, pattern, mistakes, standInPatLabel);
+  takeLines(lines.get('node'), patNodeLine, pattern, mistakes, standInPatNode);
+  takeLines(lines.get('edge'), (line) => pattern.addEdge(...takeEdge(line)), pattern, mistakes);
+  if (!lines.get('node').length) mistakes.addIfNone(lines, 'expected a node line: a pattern has at least one node');
+  mistakes.tell();
   return pattern;
 }

@@ -9,6 +9,7 @@ export const MIN_VALUE = -(2 ** 31);
 export const MAX_VALUE = 2 ** 31 - 1;
 export const MAX_KEY_LABELS = 3;
 export const MAX_PATTERN_NODES = 8;
+export const MAX_PATTERN_EDGES = 56;
 export const MAX_CONDITIONS = 2;
 export const OPERATORS = ['=', '<', '>', '<=', '>=']; // codes 1 to 5; 0 is none
 const NO_NODE = 0xffff_ffff; // an unused id of a group

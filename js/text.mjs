@@ -6,7 +6,21 @@ export class Wrong extends Error {}
 export class WrongText extends Wrong {
   constructor(file, line, reason) {
     super(`${file}:${line}: ${reason}`);
-    Object.assign(this, { file, line, reason });
+    Object.assign(this, { file, line, reason, mistakes: [this] });
+  }
+}
+
+const MOST_TOLD = 20;
+
+/** All that is wrong about a text, in line order; file, line and reason are those of the first. */
+export class WrongTexts extends WrongText {
+  constructor(mistakes) {
+    const [{ file, line, reason }] = mistakes;
+    super(file, line, reason);
+    const more = mistakes.length - MOST_TOLD;
+    const told = mistakes.slice(0, MOST_TOLD).map(({ message }) => message);
+    this.message = [...told, ...(more > 0 ? [`${file}: ${more} more mistakes`] : [])].join('\n');
+    this.mistakes = mistakes;
   }
 }
 
@@ -17,18 +31,45 @@ const TOKEN = new RegExp(
   `[${BLANK}]*(?:(?<quoted>"(?:[^"\\\\]|\\\\[^])*")|(?<sign>->|→|<=|>=|≤|≥|<|>|=|,)|(?<word>${BARE})|(?<comment>#[^]*))`,
   'uy',
 );
+const FIRST_WORD = new RegExp(`[^${BLANK}]+`, 'u');
 const BLANKS_AT_END = new RegExp(`[${BLANK}]+$`, 'u');
 const BARE_NAME = new RegExp(`^${BARE}$`, 'u');
 const WHOLE_NUMBER = /^-?[0-9]+$/;
 const LONE_SURROGATE = /[\ud800-\udfff]/u;
+// what a terminal would act on, or not show: control characters, zero-width and direction marks, line separators
+const HIDDEN = /[\x00-\x1f\x7f-\x9f\u200b-\u200f\u2028-\u202e\u2066-\u2069\ufeff]/gu;
+const UTF_16 = [0xfffe, 0xfeff]; // what such a text begins with
+const MAX_TEXT_BYTES = 2 ** 28;
+const MAX_LINE = 100_000;
+const SHOWN = 60; // characters of what was found, in a message
+const BEGINS_A_NAME = /^[\p{L}\p{N}]/u;
+const KEYWORDS = ['value', 'and', 'at', 'most', 'or'];
 const SIGNS = { '→': '->', '≤': '<=', '≥': '>=' };
 const DIGITS = 20; // so many are beyond every range, however many follow
+
+/** A text with nothing hidden in it: such characters are shown as in JSON. */
+const visible = (text) => text.replace(HIDDEN, (c) => `\\u${c.charCodeAt(0).toString(16).padStart(4, '0')}`);
+
+/** How many characters a text has. */
+export const lengthOf = (text) => (text.length > SHOWN ? [...text].length : text.length);
+
+/** A text for a message: its beginning, if it is long. */
+export function shortened(text) {
+  return visible(lengthOf(text) <= SHOWN ? text : `${[...text].slice(0, SHOWN).join('')}..`);
+}
 
 /** Whether a name can be written: at least one character, all of them Unicode. */
 export const isName = (name) => name !== '' && !LONE_SURROGATE.test(name);
 
 /** A whole number with commas between its thousands. */
 export const grouped = (number) => String(number).replace(/\B(?=(\d{3})+$)/g, ',');
+
+/** The number, if it may be that. */
+export function within(what, number, low, high) {
+  if (!(low <= number && number <= high))
+    throw new Wrong(`${what} is ${grouped(number)}, and must be from ${grouped(low)} to ${grouped(high)}`);
+  return number;
+}
 
 /** The whole number that a bare word is, if it is one. */
 export function numberOf(token) {
@@ -38,7 +79,7 @@ export function numberOf(token) {
 }
 
 /** The tokens of one line, taken one after another; errors name file and line. */
-export class Line {
+class Line {
   constructor(file, line, tokens) {
     Object.assign(this, { file, line, tokens, at: 0 });
   }
@@ -48,8 +89,23 @@ export class Line {
   }
 
   expected(what) {
-    const token = this.peek();
-    return this.error(`expected ${what}, found ${token ? `'${token.text}'` : 'the end of the line'}`);
+    const found = this.peek() ? `'${shortened(this.nextText())}'` : 'the end of the line';
+    return this.error(`expected ${what}, found ${found}${this.quotesHint()}`);
+  }
+
+  /** Two words where one is expected: perhaps a name with a blank in it. */
+  quotesHint() {
+    const at = this.at === 3 && this.tokens[0].text === 'node' ? 2 : this.at;
+    const words = this.tokens.slice(Math.max(at - 1, 1), at + 1);
+    const isPlain = (word) => word?.kind === 'word' && numberOf(word) === null;
+    if (words.length < 2 || ![...words, this.peek()].every(isPlain)) return '';
+    if (!BEGINS_A_NAME.test(this.nextText()) || KEYWORDS.includes(this.nextText())) return '';
+    return `; a name with a blank in it is quoted, as ${shortened(spelled(words.map(({ text }) => text).join(' ')))}`;
+  }
+
+  /** What stands next, whatever it is. */
+  nextText() {
+    return this.peek()?.text ?? '';
   }
 
   peek() {
@@ -97,18 +153,17 @@ export class Line {
   }
 }
 
-/** The lines that say something. */
-export function* linesOf(text, file) {
-  let number = 0;
-  for (const line of text.split('\n')) {
-    number += 1;
-    const tokens = tokensOf(line.replace(BLANKS_AT_END, ''), file, number);
-    if (tokens.length) yield new Line(file, number, tokens);
-  }
-}
+/** The first word of a line, as blanks divide it. */
+export const firstWord = (line) => FIRST_WORD.exec(line)?.[0];
 
-function tokensOf(line, file, number) {
-  const tokens = [];
+/** A line, word by word. */
+export const lineOf = (line, file, number) => new Line(file, number, tokensOf(line, file, number));
+
+function tokensOf(whole, file, number) {
+  const tooLong = whole.length > MAX_LINE && lengthOf(whole) > MAX_LINE;
+  if (tooLong)
+    throw new WrongText(file, number, `a line has at most ${grouped(MAX_LINE)} characters, and this has ${grouped(lengthOf(whole))}`);
+  const line = whole.replace(BLANKS_AT_END, ''), tokens = [];
   for (TOKEN.lastIndex = 0; TOKEN.lastIndex < line.length; ) {
     const found = TOKEN.exec(line)?.groups;
     if (!found) throw new WrongText(file, number, 'expected a closing quote');
@@ -128,16 +183,19 @@ function unquoted(text, file, number) {
     name = '\ud800';
   }
   if (name === '') throw new WrongText(file, number, 'expected a name, found an empty one');
-  if (!isName(name)) throw new WrongText(file, number, `expected a name quoted as in JSON, found ${text}`);
+  if (!isName(name)) throw new WrongText(file, number, `expected a name quoted as in JSON, found ${shortened(text)}`);
   return name;
 }
 
 /** The text of a file: UTF-8, with or without a byte order mark, any line ends. */
 export function textOfBytes(bytes, file) {
+  if (bytes.length > MAX_TEXT_BYTES)
+    throw new Wrong(`${file}: a text has at most ${grouped(MAX_TEXT_BYTES)} bytes, and this has more`);
   try {
     return new TextDecoder('utf-8', { fatal: true }).decode(bytes).replace(/\r\n?/g, '\n');
   } catch {
-    throw new WrongText(file, firstBadLine(bytes), 'expected UTF-8 text, found other bytes');
+    const found = UTF_16.includes(bytes[0] * 256 + bytes[1]) ? 'UTF-16: save it as UTF-8' : 'other bytes';
+    throw new WrongText(file, firstBadLine(bytes), `expected UTF-8 text, found ${found}`);
   }
 }
 
@@ -155,9 +213,10 @@ function firstBadLine(bytes) {
   }
 }
 
-/** A name as the text forms spell it: quoted where it would not be read as a name. */
+/** A name as the text forms spell it: quoted where it would not be read as a name, or not be seen. */
 export function spelled(name) {
-  return BARE_NAME.test(name) && !WHOLE_NUMBER.test(name) ? name : JSON.stringify(name);
+  const isPlain = BARE_NAME.test(name) && !WHOLE_NUMBER.test(name) && visible(name) === name;
+  return isPlain ? name : visible(JSON.stringify(name));
 }
 
 // characters that take two places

@@ -3,7 +3,7 @@
 import assert from 'node:assert/strict';
 import fs from 'node:fs';
 import test from 'node:test';
-import { WrongText, Wrong, graphOfText, namesOfText, patternOfText, textOfBytes } from '../bahrufaz.mjs';
+import { WrongText, graphOfText, namesOfText, patternOfText, textOfBytes } from '../bahrufaz.mjs';
 
 const EMPTY_STORE = new Uint8Array(new Uint32Array([1, 0, 0, 0, 0, 0, 48, 48, 48, 48, 48, 48]).buffer);
 const hex = (bytes) => Buffer.from(bytes).toString('hex');
@@ -23,21 +23,24 @@ function readNames(text) {
   return { labels: names.labels.items(), nodes: names.nodes.items() };
 }
 
-/** What a case comes to: what is read, or the error with its line. */
+/** What a case comes to: what is read, or the mistakes with their lines. */
 function outcome(read, one) {
   const bytes = one.bytes === undefined ? Buffer.from(one.text) : Buffer.from(one.bytes, 'hex');
   try {
     return read(textOfBytes(new Uint8Array(bytes), 't'), one);
   } catch (error) {
-    if (!(error instanceof Wrong)) throw error;
-    return error instanceof WrongText ? { line: error.line, error: error.reason } : { line: null, error: error.message };
+    if (!(error instanceof WrongText)) throw error;
+    return { mistakes: error.mistakes.map(({ line, reason }) => [line, reason]) };
   }
 }
 
-/** An error that ends in '...' is compared up to there. */
+/** A mistake that ends in '...' is compared up to there. */
 function cut(told, wanted) {
-  if (!wanted.error?.endsWith('...') || !told.error) return told;
-  return { ...told, error: told.error.slice(0, wanted.error.length - 3) + '...' };
+  for (const [place, [, reason]] of (wanted.mistakes ?? []).entries()) {
+    const one = told.mistakes?.[place];
+    if (one && reason.endsWith('...')) one[1] = one[1].slice(0, reason.length - 3) + '...';
+  }
+  return told;
 }
 
 for (const [form, read] of Object.entries({ feed: readFeed, pat: readPat, names: readNames })) {

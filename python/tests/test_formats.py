@@ -35,21 +35,20 @@ def _names(path, _):
     return {"labels": _pairs(names.labels), "nodes": _pairs(names.nodes)}
 
 
-def _outcomes(read, path, case):
-    """What is read, or the errors with their lines: this reader tells all of them, where another may tell one."""
+def _outcome(read, path, case):
+    """What is read, or the mistakes with their lines."""
     try:
-        return [read(path, case)]
+        return read(path, case)
     except WrongText as error:
-        return [{"line": one.line, "error": one.message} for one in getattr(error, "mistakes", [error])]
+        return {"mistakes": [[one.line, one.message] for one in getattr(error, "mistakes", [error])]}
 
 
 def _cut(told, wanted):
-    """An error that ends in '...' is compared up to there; without a line in the case, the line is not compared."""
-    error = wanted.get("error", "")
-    if "error" not in told:
-        return told
-    cut = told["error"][: len(error) - 3] + "..." if error.endswith("...") else told["error"]
-    return {"line": told["line"] if wanted.get("line") else None, "error": cut}
+    """A mistake that ends in '...' is compared up to there."""
+    for ours, theirs in zip(told.get("mistakes", []), wanted.get("mistakes", [])):
+        if theirs[1].endswith("..."):
+            ours[1] = ours[1][: len(theirs[1]) - 3] + "..."
+    return told
 
 
 class Formats(unittest.TestCase):
@@ -62,8 +61,7 @@ class Formats(unittest.TestCase):
                 wanted = {key: value for key, value in case.items() if key not in given}
                 path.write_bytes(bytes.fromhex(case["bytes"]) if "bytes" in case else case["text"].encode())
                 with self.subTest(case["name"]):
-                    told = [_cut(one, wanted) for one in _outcomes(read, path, case)]
-                    self.assertIn(wanted, told)
+                    self.assertEqual(_cut(_outcome(read, path, case), wanted), wanted)
 
     def test_feed(self):
         self.run_cases("feed", _feed)

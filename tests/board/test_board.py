@@ -376,6 +376,7 @@ class Files(Page):
         damaged[-4] = 1
         for name, data, wanted in [
             ("wrong.feed", "label field\nnode weight feild\n", "wrong.feed:2: no label is named feild; did you mean field?"),
+            ("twice.feed", "label a\nnode b c\nknot\n", "twice.feed:3: expected label, node, edge or constraint, found 'knot'"),
             ("bytes.feed", b"label a\nlabel \xff", "bytes.feed:2: expected UTF-8 text, found other bytes"),
             ("more.feed", self.FEED + "edge english -> comma\n", "refused with 4: a list of the graph exceeds its N"),
             ("more2.feed", self.FEED + "edge english -> comma\n", "locale -> format at most 1: the list of english has 2"),
