@@ -49,7 +49,7 @@ unfoldable pub passed : Purpose → List ℕ → List ℕ → List ℕ → Outpu
 passed task s store room =
     visitedAll task (nodePart s) (joinedSet (edgePart s)) (forwardWords (edgePart s)) (constraintPart s) store (outputOf nothing room)
 
--- a store or draft without refusal 1, 2 or 3
+-- a store or draft without refusal 1, 2 or 3 (laws/Refusals.GraphRight says that 4 and 11 are not given either, and nothing of the header)
 pub record Right (s : List ℕ) : Type 0 where
   pub header : headerRight s ≡ true
   pub records : recordsRight (nodePart s) (edgePart s) ≡ true

@@ -15,7 +15,7 @@ use Rattle.demands.specs.Exactly.{among, ascending, isRow}
 use Rattle.demands.specs.Standing.{rows-over, rows-ordered, candidates-strict}
 use Rattle.demands.specs.Answered.{answer}
 
--- what an answered listing of s gives: of what the rule reads, the rows whose images are candidates, differ, and have a pair for each pattern edge, and no others, strictly ascending; the room holds them one after the other, and then what it held before; the first result is their number
+-- what an answered listing of s gives: of what the rule reads, the rows whose images are candidates, differ, and have a pair for each pattern edge, and no others, strictly ascending; the room holds them one after the other, and then what it held before; the first result is their number. Enough.Matches says the same of the room, with the matches of the graph as rows: each is read by itself
 pub record Rows (s b work room : List ℕ) : Type 0 where
   pub got : Gathered
   pub read : gathered (nodePart s) (constraintPart s) (groupPart s) (entryPart s) b ≡ some got
