@@ -58,7 +58,7 @@ programs:
 LIB = target/staticlib/libbahrufaz.a target/lib/libbahrufaz.a target/lib/libbahrufaz.so
 lib: $(LIB)
 
-$(LIB) &: lib/here.sh lib/shared.sh VERSION crates.txt $(shell find crates -type f ! -path '*/must-fail/*')
+$(LIB) &: lib/here.sh lib/module.sh lib/shared.sh VERSION crates.txt $(shell find crates -type f ! -path '*/must-fail/*')
 	@$(MAKE) --no-print-directory kit
 	@$(TELL) library --crates bahrufaz -- lib/here.sh
 

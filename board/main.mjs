@@ -13,7 +13,7 @@ import { Inspector } from './inspector.mjs';
 import { freePlace } from './layout.mjs';
 import { Listing, Results } from './results.mjs';
 import { fillOf } from './shapes.mjs';
-import { recall, remember } from './memory.mjs';
+import { keepWorld, keptWorld, recall, remember } from './memory.mjs';
 import { showStory } from './story.mjs';
 import { Progress, World, showRefusedWorld, showWorld, showWrong } from './world.mjs';
 import { WORLDS } from './worlds.mjs';
@@ -90,12 +90,26 @@ class Board {
     const read = async (file) => ({ name: file.name, bytes: new Uint8Array(await file.arrayBuffer()) });
     const files = await Promise.all([...list].map(read));
     const patterns = files.filter(isPattern), world = files.filter((file) => !isPattern(file));
-    if (world.length && (await this.openWorld(world[0].name, world))) {
-      this.drawings = this.drawings.filter((drawing) => drawing.own);
-      if (!this.drawings.length) this.drawings.push(new Drawing('pattern 1'));
-      this.choose(this.drawings[0]);
-    }
+    if (world.length && (await this.openOwn(world[0].name, world))) await keepWorld(world[0].name, world);
     for (const { name, bytes } of patterns) this.openPattern(name, bytes);
+  }
+
+  /** Opens a world of one's own; the patterns of a built-in one go with it. */
+  async openOwn(title, files) {
+    if (!(await this.openWorld(title, files))) return false;
+    this.drawings = this.drawings.filter((drawing) => drawing.own);
+    if (!this.drawings.length) this.drawings.push(new Drawing('pattern 1'));
+    this.choose(this.drawings[0]);
+    return true;
+  }
+
+  /** Opens what was open when the page was closed; on a first visit the first world. */
+  async openLast() {
+    const { world, drawings } = recall();
+    this.drawings = drawings;
+    const kept = world === null ? await keptWorld() : undefined;
+    if (kept && (await this.openOwn(kept.title, kept.files))) return;
+    await this.openBuiltIn(WORLDS.find(({ id }) => id === world) ?? WORLDS[0]);
   }
 
   openPattern(name, bytes) {
@@ -406,9 +420,7 @@ class Board {
 async function start() {
   const module = await WebAssembly.compile(await assetBytes('bahrufaz.wasm'));
   const board = new Board(module);
-  const kept = recall();
-  board.drawings = kept.drawings;
-  await board.openBuiltIn(WORLDS.find(({ id }) => id === kept.world) ?? WORLDS[0]);
+  await board.openLast();
   globalThis.bahrufazBoard = board;
   document.body.dataset.ready = 'true';
   if ('serviceWorker' in navigator && location.protocol.startsWith('http')) await navigator.serviceWorker.register('sw.js');

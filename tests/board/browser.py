@@ -148,6 +148,15 @@ class Browser:
         self.until(path.exists, f"{name} among the downloads")
         return path.read_text(encoding="utf-8")
 
+    def until_kept(self, title: str) -> None:
+        """Waits until the browser has the files of a world."""
+        script = (
+            "const done = arguments[0], opening = indexedDB.open('bahrufaz-board', 1); opening.onsuccess = () => {"
+            "const get = opening.result.transaction('world').objectStore('world').get('last');"
+            "get.onsuccess = () => done(get.result?.title ?? '') }"
+        )
+        self.until(lambda: self.driver.execute_async_script(script) == title, f"{title} kept")
+
     def picture(self, path: Path) -> None:
         self.driver.save_screenshot(str(path))
 

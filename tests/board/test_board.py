@@ -392,6 +392,14 @@ class Files(Page):
                 self.assert_text("#world", "The small world")
                 self.assertEqual(self.browser.text("#t"), "38")
 
+    def test_a_world_from_a_file_is_there_again_when_the_page_is(self):
+        self.open_world(self.written("kept.feed", self.FEED))
+        self.add_by_touch("screen", 0.5, 0.5)
+        self.browser.until_kept("kept.feed")
+        self.browser.open(self.server.url)
+        self.assert_text("#world", "kept.feedadmitted")
+        self.assertEqual(self.names(), ["screen"])
+
     def test_names_of_another_store_are_refused(self):
         names = f"store sha256 {'0' * 64}\n"
         self.give_world(self.written("x.store", self.store()), self.written("x.names", names))
