@@ -1,4 +1,6 @@
 // The C boundary: the calls under plain names, their results in 8 words. include/bahrufaz.h declares them for C.
+#![tactic(auto)]
+
 ghost use Rattle.std.specs.Prelude.{◌≡◌, [], ◌∷◌, ◌/◌, ◌%◌};
 ghost use Rattle.rules.specs.Answers.{admit_number, build_outcome, plan_outcome, list_outcome};
 ghost use Rattle.bahrufaz.specs.Boundary.{in_eight, in_eight_wide, left};

@@ -9,7 +9,7 @@ ghost use Rattle.build.specs.Steps.{record_number};
 use build_groups::{Progress, Purpose};
 
 // The number of refusal, 0 for none, and then how many groups and entries the index has.
-#[derive(Drop)]
+#[derive(Clone, Copy)]
 pub struct Counted {
     pub number: u32,
     pub groups: u32,

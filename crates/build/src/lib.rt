@@ -1,4 +1,6 @@
 // Building and admitting a store: its index counted, written or compared.
+#![tactic(auto)]
+
 mod count;
 mod write;
 

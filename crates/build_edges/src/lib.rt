@@ -1,4 +1,6 @@
 // The edges of a store as words, each both ways round: which words a node has, where they start, and the nodes near a list.
+#![tactic(auto)]
+
 mod adjacency;
 mod joined;
 mod near;

@@ -1,4 +1,6 @@
 // What is done with a key and its list: counted, written as a group with its entries, or compared with those of a store.
+#![tactic(auto)]
+
 ghost use Rattle.std.specs.Prelude.{◌≡◌, ◌+◌, ◌*◌, ◌≤◌, ◌<◌, [], ◌∷◌, length};
 ghost use Rattle.rules.specs.Words.{part, over};
 ghost use Rattle.rules.specs.Answers.{same};
@@ -10,7 +12,7 @@ ghost use Rattle.build_groups.specs.Emit.{within, counted, group_place, entry_pl
 use rules::Key;
 
 // What a walk over the keys of a constraint is for: mode 0 counts, 1 writes, any other compares; lists longer than `above`, and how many at most.
-#[derive(Drop)]
+#[derive(Clone, Copy)]
 pub struct Purpose {
     pub mode: u32,
     pub above: u32,
@@ -21,7 +23,7 @@ pub struct Purpose {
 }
 
 // How far a walk has come: groups and entries so far, and whether it has stopped.
-#[derive(Drop)]
+#[derive(Clone, Copy)]
 pub struct Progress {
     pub groups: u32,
     pub entries: u32,

@@ -1,4 +1,6 @@
 // The walk over the keys of a constraint: each key with its list is counted, written or compared.
+#![tactic(auto)]
+
 mod walks;
 
 pub use walks::{rest_of, walk, with_id};

@@ -1,4 +1,6 @@
 // Refusal 4, decided without going through the keys.
+#![tactic(auto)]
+
 mod counting;
 mod exceed;
 

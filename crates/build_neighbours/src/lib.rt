@@ -1,4 +1,6 @@
 // The neighbours of a node with one label, in words that are arranged for it, and the nodes to be tried for a list.
+#![tactic(auto)]
+
 mod pairs;
 mod places;
 mod side;
@@ -8,7 +10,7 @@ pub use places::arrange;
 pub use side::useful;
 
 // The labels of S that are left, with zeros after them.
-#[derive(Drop)]
+#[derive(Clone, Copy)]
 pub struct Labels {
     pub first: u16,
     pub second: u16,

@@ -1,1 +1,3 @@
-// Theorems only: see specs/.
+#![tactic(auto)]
+
+// Theorems only: proofs/ has them, specs/ the words that they speak in.

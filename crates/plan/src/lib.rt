@@ -1,4 +1,6 @@
 // Planning: the rows and the bound, from a pattern and the constraints alone.
+#![tactic(auto)]
+
 ghost use Rattle.std.specs.Prelude.{◌≡◌, ◌+◌, ◌*◌, ◌≤◌, length};
 ghost use Rattle.rules.specs.Store.{constraints_in};
 ghost use Rattle.rules.specs.Pattern.{size_of, edges_of};
@@ -9,7 +11,7 @@ ghost use Rattle.plan.specs.Plans.{refused_plan, bounded_plan, covered_plan, pla
 use rules::Planned;
 
 // A plan, or a refusal: the number, the bound T, how many words the rows have, and the words.
-#[derive(Drop)]
+#[derive(Clone, Copy)]
 pub struct PlanRows {
     pub number: u32,
     pub bound: u32,

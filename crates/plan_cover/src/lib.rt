@@ -1,4 +1,6 @@
 // Refusal 7: which nodes and edges of a pattern are covered. Figures play no part, so each is counted as 1.
+#![tactic(auto)]
+
 ghost use Rattle.std.specs.Prelude.{◌≡◌, ◌<◌, ◌≤◌, length};
 ghost use Rattle.rules.specs.Lists.{all_from};
 ghost use Rattle.rules.specs.Pattern.{size_of, edges_of};

@@ -1,4 +1,6 @@
 // The rows of a plan, as long as no figure is above 65,536.
+#![tactic(auto)]
+
 ghost use Rattle.std.specs.Prelude.{◌≡◌, [], ◌∷◌, ◌+◌, ◌≤◌, length};
 ghost use Rattle.rules.specs.Words.{over};
 ghost use Rattle.rules.specs.Plan.{row_words};
@@ -8,7 +10,7 @@ ghost use Rattle.plan_rows.specs.Rows.{stand_of, Standing, NodesDone, EdgesDone}
 use rules::Row;
 
 // How far the rows have come: the figures of the nodes, rows written, the sum of their figures; `fits` says that none is above 65,536.
-#[derive(Drop)]
+#[derive(Clone, Copy)]
 pub struct Stand {
     pub figures: [u32; 8],
     pub count: usize,

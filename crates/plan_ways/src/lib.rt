@@ -1,4 +1,6 @@
 // The ways in which a pattern node may be fetched or a pattern edge covered, and the best of them.
+#![tactic(auto)]
+
 ghost use Rattle.std.specs.Prelude.{◌≡◌, true, false, cond, not, ◌||◌, ◌*◌, ◌≤◌, ◌<◌};
 ghost use mathlib.Core.List.{[], ◌∷◌, flat_map};
 ghost use Rattle.std.proofs.Math.Option.{none};
@@ -13,14 +15,14 @@ ghost use Rattle.plan_ways.specs.Ways.{way_in, slot_of, way_by, Known, Small, Wa
 use rules::{Constraint, Row};
 
 // The best way so far, if there is one.
-#[derive(Drop)]
+#[derive(Clone, Copy)]
 pub struct Best {
     pub found: bool,
     pub row: Row,
 }
 
 // The node chosen for a label, and its figure; where no label asks for one, 255 and 1.
-#[derive(Drop)]
+#[derive(Clone, Copy)]
 pub struct Slot {
     pub found: bool,
     pub node: u32,

@@ -1,4 +1,6 @@
 // All that is read of a graph store: the checks of refusals 1, 2 and 3, its sections, its records, and the key lookup.
+#![tactic(auto)]
+
 mod header;
 mod own;
 

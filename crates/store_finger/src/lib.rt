@@ -1,5 +1,7 @@
 // The key lookup from where the last one ended: the steps of the last search are kept in a lent room, and a key that is not below the
 // last one starts at the deepest of them that it would reach too.
+#![tactic(auto)]
+
 ghost use Rattle.std.specs.Prelude.{◌≡◌, ◌+◌, ◌*◌, ◌≤◌, ◌<◌, length};
 ghost use Rattle.rules.specs.Store.{most_groups, groups_in};
 ghost use Rattle.rules.specs.Listing.{low_of, found};
@@ -10,7 +12,7 @@ use rules::{Found, Key};
 use store_lookup::{found_at, group_precedes, less_then};
 
 // Where a search stands: low and high, and of the groups that it went left at one with the least key, or 4,294,967,295.
-#[derive(Drop)]
+#[derive(Clone, Copy)]
 pub struct Span {
     pub low: u32,
     pub high: u32,
@@ -18,7 +20,7 @@ pub struct Span {
 }
 
 // Where a search ended, and how many steps are kept of it.
-#[derive(Drop)]
+#[derive(Clone, Copy)]
 pub struct End {
     pub low: u32,
     pub count: usize,

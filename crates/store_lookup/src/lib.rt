@@ -1,4 +1,6 @@
 // The key lookup, and the rules of a fit list.
+#![tactic(auto)]
+
 mod fitness;
 mod keys;
 

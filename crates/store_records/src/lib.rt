@@ -1,4 +1,6 @@
 // The records of a store, by value, and refusals 2 and 3 section by section: each record keeps its rule.
+#![tactic(auto)]
+
 ghost use Rattle.std.specs.Prelude.{◌≡◌, not, ◌+◌, ◌*◌, ◌≤◌, length};
 ghost use Rattle.rules.specs.Lists.{all_from};
 ghost use Rattle.rules.specs.Listing.{entry_at};

@@ -1,4 +1,6 @@
 // The counts and offsets of a store, and its sections, found in the whole or in the parts before and after its edges: all lent on, none copied.
+#![tactic(auto)]
+
 ghost use Rattle.std.specs.Prelude.{◌≡◌, ◌+◌, ◌*◌, ◌≤◌, ◌<◌, length};
 ghost use Rattle.rules.specs.Store.{node_count, edge_count, constraint_count, group_count, entry_count, edges_at, constraints_at, groups_at, entries_at, end_at, node_part, edge_part, constraint_part, group_part, entry_part};
 ghost use Rattle.laws.specs.Parts.{nodes_before, constraints_after, groups_after, entries_after};

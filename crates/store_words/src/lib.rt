@@ -1,4 +1,6 @@
 // Words in little-endian order, read from and written to a run of bytes.
+#![tactic(auto)]
+
 ghost use Rattle.std.specs.Prelude.{◌≡◌, ◌+◌, ◌≤◌, length};
 ghost use Rattle.rules.specs.Words.{word, u16_at, u32_at, u16_bytes, u32_bytes, over};
 
