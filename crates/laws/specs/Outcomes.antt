@@ -1,5 +1,5 @@
 -- What an outcome is by its number, and listing before and after its lists are read. Assumes nothing.
-use Rattle.std.specs.Prelude.{◌≡◌, Bool, ℕ, ◌+◌, ◌*◌, ◌≤◌, leb, length, drop, replicate}
+use Rattle.std.specs.Prelude.{◌≡◌, Bool, ℕ, ◌*◌, ◌≤◌, leb, length, drop, replicate}
 use Rattle.std.proofs.Math.Path.{refl, sym, ap}
 use Rattle.std.proofs.Common.{◌∙◌, true≢false, arith}
 use Rattle.std.proofs.Math.Bool.{true, false, cond, not}

@@ -1,5 +1,5 @@
 -- The plan and its figures, from a pattern and the constraint section alone.
-use Rattle.std.specs.Prelude.{ℕ, zero, suc, ◌+◌, ◌*◌, Bool, cond, not, ◌&&◌, ltb, eqb, length, get_or, set, replicate}
+use Rattle.std.specs.Prelude.{ℕ, zero, suc, ◌*◌, Bool, cond, not, ◌&&◌, ltb, eqb, length, get_or, set, replicate}
 use mathlib.Core.List.{List, [], ◌∷◌, ◌++◌, map, flat_map}
 use Rattle.std.proofs.Math.Option.{Option, some, none}
 use Rattle.rules.specs.Words.{Bytes, Section, Room, Ids}
