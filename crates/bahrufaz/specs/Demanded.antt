@@ -14,9 +14,9 @@ use Rattle.laws.specs.Determined.{determined}
 use Rattle.laws.specs.Every.{Every}
 use Rattle.demands.specs.Exactly.{Exactly}
 use Rattle.demands.specs.Reads.{call_reads, SameBytes}
-use Rattle.demands.specs.Enough as enough
-use Rattle.demands.specs.Bounded as bounded
-use Rattle.demands.specs.Local.{admitted-local-bytes}
+use Rattle.demands.proofs.Enough as enough
+use Rattle.demands.proofs.Bounded as bounded
+use Rattle.demands.proofs.Local.{admitted-local-bytes}
 use Rattle.bahrufaz.specs.Boundary.{in_eight, wide, in_eight_wide}
 
 -- ---- each call leaves one outcome for one input

@@ -1,13 +1,7 @@
--- Listing reads no more entries than T, and T is known from the pattern and the constraints alone. The store need not be admitted. Assumes nothing.
-use Rattle.std.specs.Prelude.{◌≡◌, List, [], ◌∷◌, ℕ, ◌+◌, ◌≤◌, get_or}
-use Rattle.std.proofs.Common.{sym, ap, ◌∙◌}
-use Rattle.rules.specs.Store.{node_part, constraint_part, group_part, entry_part}
-use Rattle.rules.specs.Plan.{bound, most_read, plan_words}
-use Rattle.rules.specs.Answers.{plan_number, plan_outcome, gathered, list_outcome}
-use Rattle.laws.specs.Outcomes.{answered, outcome-answered, outcome-number}
-use Rattle.laws.specs.PatternLaws.{pattern-says}
-use Rattle.demands.specs.Answered.{answer}
-use Rattle.demands.specs.Within.{reader-short, all-within}
+-- What it is for an answered listing to read no more entries than T: proofs/Bounded proves it. Nothing is proved here.
+use Rattle.std.specs.Prelude.{◌≡◌, List, [], ◌∷◌, ℕ, ◌+◌, ◌≤◌}
+use Rattle.rules.specs.Plan.{most_read}
+use Rattle.rules.specs.Answers.{plan_outcome, list_outcome}
 
 -- the results of an answered listing: matches, node entries, edge entries and T; the entries together are at most T, T is at most 65,536, and planning gives the same T
 pub record Bounded (s b work room : List ℕ) : Type 0 where
@@ -19,37 +13,3 @@ pub record Bounded (s b work room : List ℕ) : Type 0 where
   pub within : nodes + edges ≤ total
   pub small : total ≤ most_read
   pub planned : (plan : List ℕ) → (plan_outcome s b plan).number ≡ 0 → (plan_outcome s b plan).results ≡ total ∷ []
-
--- T of an answered plan
-planned-bound : (s b plan : List ℕ) → (plan_outcome s b plan).number ≡ 0 → (plan_outcome s b plan).results ≡ bound (constraint_part s) b ∷ []
-unfolding plan_outcome answered
-planned-bound s b plan q =
-    let z : plan_number s b plan ≡ 0 = sym (outcome-number (plan_number s b plan) _ _ [] plan) ∙ q in
-    rw z (ap (λ o. o.results) (outcome-answered (bound (constraint_part s) b ∷ []) (plan_words (constraint_part s) b) plan []))
-
--- An answered listing reads at most T entries, for any store, admitted or not.
-pub listing-bounded : (s b work room : List ℕ) → (list_outcome s b work room).number ≡ 0 → Bounded s b work room
-unfolding gathered
-listing-bounded s b work room q =
-    let a = answer s b work room q in
-    record {
-      matches = _;
-      nodes = a.given.got.nodes;
-      edges = a.given.got.edges;
-      total = bound (constraint_part s) b;
-      results = ap (λ o. o.results) a.given.same;
-      within =
-          all-within (reader-short (node_part s) (constraint_part s) (group_part s) (entry_part s)) (pattern-says b a.heard.plan.pattern) a.given.got a.given.read;
-      small = a.heard.plan.small;
-      planned = planned-bound s b;
-    }
-
-listed-bound : (s b work room : List ℕ) → (list_outcome s b work room).number ≡ 0 → get_or (list_outcome s b work room).results 3 0 ≡ bound (constraint_part s) b
-listed-bound s b work room q = ap (λ o. get_or o.results 3 0) (answer s b work room q).given.same
-
--- T does not depend on the graph: two stores with equal constraint sections give the same T, the fourth result, whatever else they hold and whatever the rooms.
-pub bound-alike : (s t b work room work' room' : List ℕ) → constraint_part s ≡ constraint_part t
-    → (list_outcome s b work room).number ≡ 0 → (list_outcome t b work' room').number ≡ 0
-    → get_or (list_outcome s b work room).results 3 0 ≡ get_or (list_outcome t b work' room').results 3 0
-bound-alike s t b work room work' room' same p q =
-    listed-bound s b work room p ∙ ap (λ c. bound c b) same ∙ sym (listed-bound t b work' room' q)

@@ -8,11 +8,11 @@ use Rattle.rules.specs.Match.{image, is_match}
 use Rattle.rules.specs.Listing.{Gathered, has_pair, matches_of}
 use Rattle.laws.specs.Cases.{both-ways}
 use Rattle.laws.specs.PatternLaws.{RightPattern}
-use Rattle.demands.specs.Matched.{match-says, says-match}
+use Rattle.demands.proofs.Matched.{match-says, says-match}
 use Rattle.demands.specs.Gathers.{has_both}
 use Rattle.demands.specs.AllRows.{Whole}
 use Rattle.demands.specs.Exactly.{among, is_row, Exactly}
-use Rattle.demands.specs.Standing.{row-says, says-row, rows-over, rows-ordered}
+use Rattle.demands.proofs.Standing.{row-says, says-row, rows-over, rows-ordered}
 
 -- ---- a row over candidates and pairs that leave out no match passes exactly if it is a match
 module _ {g : Graph} {b : List ℕ} {got : Gathered} (right : RightPattern b) (whole : Whole g b got) where

@@ -34,7 +34,7 @@ use Rattle.demands.specs.Faithful.{Faithful}
 use Rattle.demands.specs.Numbers.{Sound}
 use Rattle.laws.specs.Drafts.{body-length}
 use Rattle.laws.specs.Stores.{store-split}
-use Rattle.demands.specs.Fit.{entry-number, small-entries, list-fit}
+use Rattle.demands.proofs.Fit.{entry-number, small-entries, list-fit}
 
 -- ---- the words of an index
 -- where there are few nodes and constraints, constraint and ids of each group are words

@@ -11,11 +11,12 @@ use Rattle.rules.specs.Listing.{nothing, with_rows}
 use Rattle.rules.specs.Answers.{gathered, admit_number, list_outcome}
 use Rattle.laws.specs.Outcomes.{refused, read_outcome, list_refusal}
 use Rattle.laws.specs.Every.{Every, every-more}
-use Rattle.demands.specs.Numbers.{admitted-sound}
-use Rattle.demands.specs.Answered.{gathered_of, list-heard, list-refused}
+use Rattle.demands.proofs.Numbers.{admitted-sound}
+use Rattle.demands.specs.Answered.{gathered_of}
+use Rattle.demands.proofs.Answered.{list-heard, list-refused}
 use Rattle.demands.specs.Reads.{ListRead, store_reader, lists_read, store_reads, call_reads, AlikeIn, SameBytes}
-use Rattle.demands.specs.InBytes.{bytes-alike}
-use Rattle.demands.specs.ReadAlike.{rows-alike}
+use Rattle.demands.proofs.InBytes.{bytes-alike}
+use Rattle.demands.proofs.ReadAlike.{rows-alike}
 
 -- ---- two stores with equal constraint sections whose headers are both right or both wrong, alike in each list that listing reads in the first
 module _ (s t b work : List ℕ) (right : header_right s ≡ header_right t) (same : constraint_part s ≡ constraint_part t)

@@ -14,7 +14,7 @@ use Rattle.rules.specs.declared.Row.{Row}
 use Rattle.rules.specs.declared.Entry.{Entry}
 use Rattle.demands.specs.Within.{Short}
 use Rattle.demands.specs.Reads.{ListRead, keys_read, lists_read, named, entries_of_reads}
-use Rattle.demands.specs.Counting.{joined-up}
+use Rattle.demands.proofs.Counting.{joined-up}
 
 module _ (r : Reader) where
   pub lenient : Reader

@@ -10,11 +10,12 @@ use Rattle.rules.specs.Listing.{Reader, nothing}
 use Rattle.laws.specs.Outcomes.{list_refusal}
 use Rattle.rules.specs.declared.Row.{Row}
 use Rattle.laws.specs.PatternLaws.{pattern-says}
-use Rattle.demands.specs.Answered.{refusal-zero}
-use Rattle.demands.specs.Within.{reader-short, all-within}
+use Rattle.demands.proofs.Answered.{refusal-zero}
+use Rattle.demands.proofs.Within.{reader-short, all-within}
 use Rattle.demands.specs.Reads.{lists_read, store_reader, store_reads, call_reads, entries_of_reads}
-use Rattle.demands.specs.Counting.{total, Counts, rows-counted}
-use Rattle.demands.specs.Lenient.{lenient, rows-more, rows-given, lenient-short}
+use Rattle.demands.specs.Counting.{total, Counts}
+use Rattle.demands.proofs.Counting.{rows-counted}
+use Rattle.demands.proofs.Lenient.{lenient, rows-more, rows-given, lenient-short}
 
 -- The lists that the listing call reads have together at most T entries: for any store, pattern and working room, whatever the call answers. A list that is read twice counts twice; an unfit list, at which the call stops, is not read further and counts 0.
 pub reads-bounded : (s b work : List ℕ) → entries_of_reads (store_reader s) (call_reads s b work) ≤ bound (constraint_part s) b
