@@ -11,7 +11,6 @@ use lib.Seq.{slice}
 use borrow.Author.Tests.{le-ltb, lt-ltb, ne_eqb, eqb-true}
 use Rattle.rules.specs.Lists.{all, any, keep, has}
 use Rattle.laws.specs.Strict.{Strict}
-use Rattle.rules.specs.Graph.{labelled}
 use Rattle.laws.specs.Keep.{keep-most, keep-yes, keep-no, keep-from, has-keep, keep-swap}
 use Rattle.laws.specs.Slices.{slice-next, slice-none}
 use Rattle.laws.specs.Cases.{first-holds, second-holds}

@@ -10,7 +10,7 @@ use lib.ListN.{length, take, drop, replicate, length-append, length-take}
 use lib.Seq.{take-append_seam}
 use borrow.Author.Tests.{not-true, not-false, ne_eqb, le-leb, lt-leb, le-ltb, lt-ltb}
 use Rattle.rules.specs.Words.{over}
-use Rattle.rules.specs.Lists.{range, sum}
+use Rattle.rules.specs.Lists.{range}
 use Rattle.rules.specs.Store.{header_right, constraint_part, constraints_in, constraints_right}
 use Rattle.rules.specs.Pattern.{size_of, edges_of, pattern_label, pattern_right}
 use Rattle.rules.specs.Plan.{most_read, no_figures, smallest, node_rows_from, node_rows, edge_ways, figures_of, listed, edge_rows, rows_of, all_covered, bound, row_words, plan_words}

@@ -6,7 +6,7 @@ use Rattle.bahrufaz.proofs.bahrufaz_list.Tie as tie
 
 returns : tie.Need-returns
 returns c =
-    gives-wide _ _ _ _ _ _ _ _ _ _ c.before.before.before.before.before.before.before.before.list.ensures c.before.before.lower.ensures c.before.upper.ensures c.give.ensures
+    gives-wide _ _ _ _ _ _ _ _ _ _ c.list-listed.ensures c.lower.ensures c.upper.ensures c.give.ensures
 
 pub bahrufaz_list_spec : {M : Type 1} → statement M
 bahrufaz_list_spec = tie.close (tie.spec (λ c κs. search rules) (λ c κs. search rules) (λ c κs. search rules) (λ c κs. search rules) (λ c. search rules) (λ c. search rules) returns)

@@ -27,17 +27,17 @@ module _ (ws : List ℕ) (u v : ℕ) (a b : Bool) (p : a ≡ word_in ws u v) (q 
   none : a ≡ false → b ≡ false → (0 ≡ bits_of ws u v) × (0 < 4)
   none h k = (told ws u v false false (sym h ∙ p) (sym k ∙ q), omega arith)
 
-returns : tie.Need-returns
-returns c = let w = c.before.before.before in three _ _ _ _ _ w.edge_in.ensures c.before.edge-in2.ensures c.before.before.if1.true c.if2.true
+returns : tie.Need-returns-then-edge_in-2
+returns c = let w = c in three _ _ _ _ _ w.edge_in.ensures c.edge_in-then-edge_in.ensures c.if-edge_in.true c.if-edge_in-2.true
 
-returns-2 : tie.Need-returns-2
-returns-2 c = let w = c.before.before.before in one _ _ _ _ _ w.edge_in.ensures c.before.edge-in2.ensures c.before.before.if1.true c.if2.false
+returns-2 : tie.Need-returns-then-edge_in
+returns-2 c = let w = c in one _ _ _ _ _ w.edge_in.ensures c.edge_in-then-edge_in.ensures c.if-edge_in.true c.if-edge_in-2.false
 
-returns-3 : tie.Need-returns-3
-returns-3 c = let w = c.before.before.before in two _ _ _ _ _ w.edge_in.ensures c.before.edge-in3.ensures c.before.before.if1.false c.if3.true
+returns-3 : tie.Need-returns-then-edge_in-3
+returns-3 c = let w = c in two _ _ _ _ _ w.edge_in.ensures c.edge_in-2.ensures c.if-edge_in.false c.if-edge_in-3.true
 
-returns-4 : tie.Need-returns-4
-returns-4 c = let w = c.before.before.before in none _ _ _ _ _ w.edge_in.ensures c.before.edge-in3.ensures c.before.before.if1.false c.if3.false
+returns-4 : tie.Need-returns
+returns-4 c = let w = c in none _ _ _ _ _ w.edge_in.ensures c.edge_in-2.ensures c.if-edge_in.false c.if-edge_in-3.false
 
 pub bits_spec : {M : Type 1} → statement M
 bits_spec =

@@ -7,23 +7,23 @@ use borrow.Author.Rules.{rules}
 use Rattle.build_groups.proofs.bytes_same.Statement.{statement}
 use Rattle.build_groups.proofs.bytes_same.Tie as tie
 
-abbrev invariant-loop : tie.invariant-loop
+abbrev invariant-loop : tie.invariant-loop-i
 invariant-loop a b i₀ i = Left a b i
 
-abbrev decreases-loop : tie.decreases-loop
+abbrev decreases-loop : tie.decreases-loop-i
 decreases-loop a b i₀ i = length a - i
 
-returns : tie.Need-returns invariant-loop decreases-loop
-returns c = left-short c.before.before.loop.invariant (omega arith) c.if1.true
+returns : tie.Need-returns-then-b-i invariant-loop decreases-loop
+returns c = left-short c.loop-i.invariant (omega arith) c.if-b-i.true
 
-returns-2 : tie.Need-returns-2 invariant-loop decreases-loop
-returns-2 c = left-differs c.before.before.before.before.before.loop.invariant (omega arith) (omega arith) c.if2.true
+returns-2 : tie.Need-returns-then-a-at invariant-loop decreases-loop
+returns-2 c = left-differs c.loop-i.invariant (omega arith) (omega arith) c.if-a-at.true
 
-loop-again : tie.Need-loop-preserved invariant-loop decreases-loop
-loop-again c = left-next c.before.before.before.before.before.loop.invariant (omega arith) (omega arith) c.if2.false
+loop-again : tie.Need-loop-i-preserved invariant-loop decreases-loop
+loop-again c = left-next c.loop-i.invariant (omega arith) (omega arith) c.if-a-at.false
 
-returns-3 : tie.Need-returns-3 invariant-loop decreases-loop
-returns-3 c = left-done c.before.loop.invariant c.loop-test.false
+returns-3 : tie.Need-returns invariant-loop decreases-loop
+returns-3 c = left-done c.loop-i.invariant c.loop-i-test.false
 
 pub bytes_same_spec : {M : Type 1} → statement M
 bytes_same_spec =

@@ -15,7 +15,7 @@ three ws a b c v x y z p q r = omega arith
 
 returns : tie.Need-returns
 returns c =
-    three _ _ _ _ _ _ _ _ c.before.before.bits.ensures.0 c.before.bits2.ensures.0 c.bits3.ensures.0
+    three _ _ _ _ _ _ _ _ c.bits.ensures.0 c.bits-2.ensures.0 c.bits-3.ensures.0
 
 pub directions_spec : {M : Type 1} → statement M
 directions_spec =

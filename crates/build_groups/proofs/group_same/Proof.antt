@@ -6,34 +6,34 @@ use Rattle.build_groups.proofs.Comparing.{compared}
 use Rattle.build_groups.proofs.group_same.Statement.{statement}
 use Rattle.build_groups.proofs.group_same.Tie as tie
 
-slice-aggregate-put-group : tie.Need-slice-aggregate-put-group
+slice-aggregate-put-group : tie.Need-slice_bounds-put_group-end
 slice-aggregate-put-group c = search rules
 
-put-group-requires : tie.Need-put-group-requires
+put-group-requires : tie.Need-put_group-requires
 put-group-requires c κs = search rules
 
-add-end : tie.Need-overflow-add-end
+add-end : tie.Need-overflow_add-end
 add-end c = search rules
 
-sub-bytes-same : tie.Need-overflow-sub-bytes-same
+sub-bytes-same : tie.Need-slice_bounds-bytes_same-count
 sub-bytes-same c = search rules
 
-part-bytes-same-start : tie.Need-slice-bounds-bytes-same-start
+part-bytes-same-start : tie.Need-slice_bounds-bytes_same-start
 part-bytes-same-start c = search rules
 
-part-bytes-same-end : tie.Need-slice-bounds-bytes-same-end
+part-bytes-same-end : tie.Need-slice_bounds-bytes_same-end
 part-bytes-same-end c = search rules
 
-slice-aggregate-bytes-same : tie.Need-slice-aggregate-bytes-same
+slice-aggregate-bytes-same : tie.Need-slice_bounds-bytes_same-end-2
 slice-aggregate-bytes-same c = search rules
 
-bytes-same-requires : tie.Need-bytes-same-requires
+bytes-same-requires : tie.Need-bytes_same-requires
 bytes-same-requires c κs = search rules
 
 returns : tie.Need-returns
 returns c =
-    let own = c.before.before.before.before in
-    compared _ _ _ _ _ c.bytes_same.ensures own.put-group.ensures (rw length-group (omega arith))
+    let own = c in
+    compared _ _ _ _ _ c.bytes_same.ensures own.put_group.ensures (rw length-group (omega arith))
 
 pub group_same_spec : {M : Type 1} → statement M
 group_same_spec =

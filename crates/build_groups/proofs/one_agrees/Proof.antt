@@ -4,13 +4,13 @@ use Rattle.build_groups.specs.Emit.{agrees}
 use Rattle.build_groups.proofs.one_agrees.Statement.{statement}
 use Rattle.build_groups.proofs.one_agrees.Tie as tie
 
-cast-count : tie.Need-overflow-cast-count
+cast-count : tie.Need-overflow_cast-count
 cast-count c = search rules
 
-group-agrees-requires : tie.Need-group-agrees-requires
+group-agrees-requires : tie.Need-group_agrees-requires
 group-agrees-requires c κs = search rules
 
-list-agrees-requires : tie.Need-list-agrees-requires
+list-agrees-requires : tie.Need-list_agrees-requires
 list-agrees-requires c κs = search rules
 
 returns : tie.Need-returns

@@ -4,26 +4,26 @@ use Rattle.build_groups.proofs.Records.{one-entry}
 use Rattle.build_groups.proofs.put_entry.Statement.{statement}
 use Rattle.build_groups.proofs.put_entry.Tie as tie
 
-directions-requires : tie.Need-directions-requires
+directions-requires : tie.Need-directions-x-requires
 directions-requires c κs = search rules
 
-put-u32-requires : tie.Need-put-u32-requires
+put-u32-requires : tie.Need-put_u32-requires
 put-u32-requires c κs = search rules
 
-add-put-directions : tie.Need-overflow-add-put-directions
+add-put-directions : tie.Need-overflow_add-at
 add-put-directions c = search rules
 
-put-directions-requires : tie.Need-put-directions-requires
+put-directions-requires : tie.Need-put_directions-requires
 put-directions-requires c κs = search rules
 
-same-length : tie.Need-same-length
+same-length : tie.Need-shape_of-room
 same-length c = search rules
 
 returns : tie.Need-returns
 returns c =
-    let wrote = c.before.before.before.before.before.before in
-    let s = wrote.before.before.before.before.before.before in
-    one-entry _ _ _ _ _ _ _ _ s.requires.0 wrote.before.before.directions.ensures wrote.put-u32.ensures c.before.before.put-directions.ensures
+    let wrote = c in
+    let s = wrote in
+    one-entry _ _ _ _ _ _ _ _ s.requires.0 wrote.directions-x.ensures wrote.put_u32.ensures c.put_directions.ensures
 
 pub put_entry_spec : {M : Type 1} → statement M
 put_entry_spec =

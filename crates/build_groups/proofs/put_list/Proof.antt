@@ -10,27 +10,27 @@ use borrow.Author.Rules.{rules}
 use Rattle.build_groups.proofs.put_list.Statement.{statement}
 use Rattle.build_groups.proofs.put_list.Tie as tie
 
-abbrev invariant-loop : tie.invariant-loop
+abbrev invariant-loop : tie.invariant-loop-i
 invariant-loop edges begins key list room₀ at i₀ next₀ room i next =
     ((i ≤ length list) × (next + (length list - i) * 8 ≤ length room)) × Writing (forward_words edges) (ids_of key) room₀ at list room next (drop i list)
 
-abbrev decreases-loop : tie.decreases-loop
+abbrev decreases-loop : tie.decreases-loop-i
 decreases-loop edges begins key list room₀ at i₀ next₀ room i next = length list - i
 
-loop-again : tie.Need-loop-preserved invariant-loop decreases-loop
+loop-again : tie.Need-loop-i-preserved invariant-loop decreases-loop
 loop-again c =
-    let turn = c.before.before.before.before.before in
-    let inv = turn.before.loop.invariant in
-    let next = wrote (rw (drop-next _ _ turn.loop-test.true) at inv.1) c.before.before.put-entry.ensures in
+    let turn = c in
+    let inv = turn.loop-i.invariant in
+    let next = wrote (rw (drop-next _ _ turn.loop-i-test.true) at inv.1) c.put_entry.ensures in
     let same = next.same in
     let was = inv.1.same in
     ((omega arith, omega arith), next)
 
 returns : tie.Need-returns invariant-loop decreases-loop
-returns c = ended (rw (drop_of_length-le _ {i = c.before.loop.i} c.loop-test.false) at c.before.loop.invariant.1)
+returns c = ended (rw (drop_of_length-le _ {i = c.loop-i.i} c.loop-i-test.false) at c.loop-i.invariant.1)
 
 pub put_list_spec : {M : Type 1} → statement M
 put_list_spec =
     tie.close
-    (tie.spec invariant-loop decreases-loop (λ c. ((omega arith, omega arith), begun _ _ _ _ _ c.before.before.before.before.requires.0)) (λ c. search rules) (λ c. search rules)
-    (λ c. search rules) (λ c. search rules) (λ c κs. search rules) (λ c. search rules) loop-again (λ c. c.before.loop.invariant.1.same) returns)
+    (tie.spec invariant-loop decreases-loop (λ c. ((omega arith, omega arith), begun _ _ _ _ _ c.requires.0)) (λ c. search rules) (λ c. search rules)
+    (λ c. search rules) (λ c. search rules) (λ c κs. search rules) (λ c. search rules) loop-again (λ c. c.loop-i.invariant.1.same) returns)

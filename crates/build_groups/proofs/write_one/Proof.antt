@@ -4,39 +4,39 @@ use Rattle.build_groups.proofs.Emitting.{wrote-one}
 use Rattle.build_groups.proofs.write_one.Statement.{statement}
 use Rattle.build_groups.proofs.write_one.Tie as tie
 
-cast-at : tie.Need-overflow-cast-at
+cast-at : tie.Need-overflow_cast-at
 cast-at c = search rules
 
-mul-at : tie.Need-overflow-mul-at
+mul-at : tie.Need-overflow_mul-at
 mul-at c = search rules
 
-add-at : tie.Need-overflow-add-at
+add-at : tie.Need-overflow_add-at
 add-at c = search rules
 
-cast-put-group : tie.Need-overflow-cast-put-group
+cast-put-group : tie.Need-overflow_cast-list
 cast-put-group c = search rules
 
-put-group-requires : tie.Need-put-group-requires
+put-group-requires : tie.Need-put_group-requires
 put-group-requires c κs = search rules
 
-cast-start : tie.Need-overflow-cast-start
+cast-start : tie.Need-overflow_cast-start
 cast-start c = search rules
 
-mul-start : tie.Need-overflow-mul-start
+mul-start : tie.Need-overflow_mul-start
 mul-start c = search rules
 
-add-start : tie.Need-overflow-add-start
+add-start : tie.Need-overflow_add-start
 add-start c = search rules
 
-put-list-requires : tie.Need-put-list-requires
+put-list-requires : tie.Need-put_list-requires
 put-list-requires c κs = search rules
 
-same-length : tie.Need-same-length
+same-length : tie.Need-shape_of-room
 same-length c = search rules
 
 returns : tie.Need-returns
 returns c =
-    wrote-one _ _ _ _ _ _ _ _ _ c.before.before.before.before.before.before.before.before.put-group.ensures c.before.before.put-list.ensures
+    wrote-one _ _ _ _ _ _ _ _ _ c.put_group.ensures c.put_list.ensures
 
 pub write_one_spec : {M : Type 1} → statement M
 write_one_spec =

@@ -5,45 +5,46 @@ use borrow.Author.Rules.{rules}
 use Rattle.laws.specs.Header.{passed-constraints}
 use lib.ListN.{length}
 use lib.Seq.{length-take-le}
-use mathlib.Core.Path.{◌≡◌, sym}
+use mathlib.Core.Path.{◌≡◌, sym, ap}
+use mathlib.Core.Bool.{not}
 use Rattle.plan.proofs.Planning.{few-constraints, plan-part, told-one, told-other, told-ten, told-zero, pattern-long, length-few, length-fits}
 use Rattle.plan.proofs.plan.Statement.{statement}
 use Rattle.plan.proofs.plan.Tie as tie
 
-returns : tie.Need-returns
-returns c = told-one _ _ _ _ c.before.header-right.ensures c.if1.true
+returns : tie.Need-returns-then-not-header_right
+returns c = told-one _ _ _ _ c.header_right.ensures (ap not c.if-not-header_right.true)
 
-constraint-part-requires : tie.Need-constraint-part-requires
-constraint-part-requires c κs = passed-constraints _ _ c.before.header-right.ensures c.if1.false
+constraint-part-requires : tie.Need-constraint_part-requires
+constraint-part-requires c κs = passed-constraints _ _ c.header_right.ensures (ap not c.if-not-header_right.false)
 
-plan-of-requires : tie.Need-plan-of-requires
-plan-of-requires c κs = few-constraints _ _ c.before.before.header-right.ensures c.before.if1.false _ c.constraint-part.ensures
+plan-of-requires : tie.Need-plan_of-p-requires
+plan-of-requires c κs = few-constraints _ _ c.header_right.ensures (ap not c.if-not-header_right.false) _ c.constraint_part.ensures
 
-returns-2 : tie.Need-returns-2
-returns-2 c = told-other _ _ _ _ c.before.before.before.before.before.header-right.ensures c.before.before.before.before.if1.false _ (plan-part _ _ _ _ c.before.before.before.constraint-part.ensures c.before.before.plan-of.ensures) c.if2.true
+returns-2 : tie.Need-returns-then-p-ne0
+returns-2 c = told-other _ _ _ _ c.header_right.ensures (ap not c.if-not-header_right.false) _ (plan-part _ _ _ _ c.constraint_part.ensures c.plan_of-p.ensures) c.if-p-ne0.true
 
-rows-length-requires : tie.Need-rows-length-requires
-rows-length-requires c κs = pattern-long _ _ [] _ c.before.before.before.before.before.header-right.ensures c.before.before.before.before.if1.false _ (plan-part _ _ _ _ c.before.before.before.constraint-part.ensures c.before.before.plan-of.ensures) c.if2.false
+rows-length-requires : tie.Need-rows_length-requires
+rows-length-requires c κs = pattern-long _ _ [] _ c.header_right.ensures (ap not c.if-not-header_right.false) _ (plan-part _ _ _ _ c.constraint_part.ensures c.plan_of-p.ensures) c.if-p-ne0.false
 
-returns-3 : tie.Need-returns-3
-returns-3 c = told-ten _ _ _ _ c.before.before.before.before.before.before.before.header-right.ensures c.before.before.before.before.before.before.if1.false _ (plan-part _ _ _ _ c.before.before.before.before.before.constraint-part.ensures c.before.before.before.before.plan-of.ensures) c.before.before.if2.false _ c.before.rows-length.ensures c.if3.true
+returns-3 : tie.Need-returns-then-room-rows_length
+returns-3 c = told-ten _ _ _ _ c.header_right.ensures (ap not c.if-not-header_right.false) _ (plan-part _ _ _ _ c.constraint_part.ensures c.plan_of-p.ensures) c.if-p-ne0.false _ c.rows_length.ensures c.if-room-rows_length.true
 
-array-share-prefix-rows : tie.Need-array-share-prefix-rows
+array-share-prefix-rows : tie.Need-slice_bounds-rows-end
 array-share-prefix-rows c =
-    let few = length-few _ _ [] _ c.before.before.before.before.before.before.before.before.before.header-right.ensures c.before.before.before.before.before.before.before.before.if1.false _ (plan-part _ _ _ _ c.before.before.before.before.before.before.before.constraint-part.ensures c.before.before.before.before.before.before.plan-of.ensures) c.before.before.before.before.if2.false in
-    let l : length c.before.before.before.before.before.before.plan-of.result.rows ≡ 512 = search rules in
+    let few = length-few _ _ [] _ c.header_right.ensures (ap not c.if-not-header_right.false) _ (plan-part _ _ _ _ c.constraint_part.ensures c.plan_of-p.ensures) c.if-p-ne0.false in
+    let l : length c.plan_of-p.result.rows ≡ 512 = search rules in
     omega arith
 
 copy-requires : tie.Need-copy-requires
-copy-requires c κs = length-fits _ _ c.before.before.before.before.before.before.before.before.before.before.before.before.before.before.args.room.now _ c.before.before.before.before.before.before.before.before.before.before.header-right.ensures c.before.before.before.before.before.before.before.before.before.if1.false _ (plan-part _ _ _ _ c.before.before.before.before.before.before.before.before.constraint-part.ensures c.before.before.before.before.before.before.before.plan-of.ensures) c.before.before.before.before.before.if2.false _ c.before.before.before.before.rows-length.ensures c.before.before.before.if3.false
+copy-requires c κs = length-fits _ _ c.args.room.now _ c.header_right.ensures (ap not c.if-not-header_right.false) _ (plan-part _ _ _ _ c.constraint_part.ensures c.plan_of-p.ensures) c.if-p-ne0.false _ c.rows_length.ensures c.if-room-rows_length.false
 
-returns-4 : tie.Need-returns-4
-returns-4 c = told-zero _ _ _ _ c.before.before.before.before.before.before.before.before.before.before.before.before.before.header-right.ensures c.before.before.before.before.before.before.before.before.before.before.before.before.if1.false _ (plan-part _ _ _ _ c.before.before.before.before.before.before.before.before.before.before.before.constraint-part.ensures c.before.before.before.before.before.before.before.before.before.before.plan-of.ensures) c.before.before.before.before.before.before.before.before.if2.false _ _ c.before.before.before.before.before.before.before.rows-length.ensures c.before.before.before.before.before.before.if3.false c.before.before.copy.ensures
+returns-4 : tie.Need-returns
+returns-4 c = told-zero _ _ _ _ c.header_right.ensures (ap not c.if-not-header_right.false) _ (plan-part _ _ _ _ c.constraint_part.ensures c.plan_of-p.ensures) c.if-p-ne0.false _ _ c.rows_length.ensures c.if-room-rows_length.false c.copy.ensures
 
-slice-aggregate-copy : tie.Need-slice-aggregate-copy
+slice-aggregate-copy : tie.Need-slice_bounds-copy-end
 slice-aggregate-copy c =
-    let few = length-few _ _ [] _ c.before.before.before.before.before.before.before.before.before.before.header-right.ensures c.before.before.before.before.before.before.before.before.before.if1.false _ (plan-part _ _ _ _ c.before.before.before.before.before.before.before.before.constraint-part.ensures c.before.before.before.before.before.before.before.plan-of.ensures) c.before.before.before.before.before.if2.false in
-    let l : length c.before.before.before.before.before.before.before.plan-of.result.rows ≡ 512 = search rules in
+    let few = length-few _ _ [] _ c.header_right.ensures (ap not c.if-not-header_right.false) _ (plan-part _ _ _ _ c.constraint_part.ensures c.plan_of-p.ensures) c.if-p-ne0.false in
+    let l : length c.plan_of-p.result.rows ≡ 512 = search rules in
     sym (length-take-le _ _ (omega arith))
 
 pub plan_spec : {M : Type 1} → statement M

@@ -1,26 +1,28 @@
 -- `plan::plan_of` meets its contract. Assumes nothing.
 use borrow.Author.Rules.{rules}
+use mathlib.Core.Path.{ap}
+use mathlib.Core.Bool.{not}
 use Rattle.plan.proofs.Planning.{given-of, ends-of, plan-three, plan-six, plan-on}
 use Rattle.plan.proofs.plan_of.Statement.{statement}
 use Rattle.plan.proofs.plan_of.Tie as tie
 
-returns : tie.Need-returns
-returns c = plan-three _ _ _ c.before.before.constraints-right.ensures _ c.before.if1.true c.refused.ensures
+returns : tie.Need-returns-then-not-constraints_right
+returns c = plan-three _ _ _ c.constraints_right.ensures _ (ap not c.if-not-constraints_right.true) c.refused.ensures
 
-returns-2 : tie.Need-returns-2
+returns-2 : tie.Need-returns-then-not-pattern_right
 returns-2 c =
-    plan-six _ _ _ c.before.before.before.before.constraints-right.ensures _ c.before.before.pattern-right.ensures c.before.before.before.if1.false _ c.before.if2.true c.refused2.ensures
+    plan-six _ _ _ c.constraints_right.ensures _ c.pattern_right.ensures (ap not c.if-not-constraints_right.false) _ (ap not c.if-not-pattern_right.true) c.refused-then-not-pattern_right.ensures
 
 neighbours-requires : tie.Need-neighbours-requires
-neighbours-requires c κs = ends-of _ _ c.before.pattern-right.ensures c.if2.false
+neighbours-requires c κs = ends-of _ _ c.pattern_right.ensures (ap not c.if-not-pattern_right.false)
 
-covered-plan-requires : tie.Need-covered-plan-requires
+covered-plan-requires : tie.Need-covered_plan-requires
 covered-plan-requires c κs =
-    given-of _ _ _ _ _ c.before.before.before.before.before.before.before.requires c.before.before.before.before.constraints-right.ensures c.before.before.before.if1.false c.before.before.pattern-right.ensures c.before.if2.false c.neighbours.ensures
+    given-of _ _ _ _ _ c.requires c.constraints_right.ensures (ap not c.if-not-constraints_right.false) c.pattern_right.ensures (ap not c.if-not-pattern_right.false) c.neighbours.ensures
 
-returns-3 : tie.Need-returns-3
+returns-3 : tie.Need-returns
 returns-3 c =
-    plan-on _ _ _ c.before.before.before.before.before.constraints-right.ensures _ c.before.before.before.pattern-right.ensures c.before.before.before.before.if1.false _ c.before.before.if2.false c.covered-plan.ensures
+    plan-on _ _ _ c.constraints_right.ensures _ c.pattern_right.ensures (ap not c.if-not-constraints_right.false) _ (ap not c.if-not-pattern_right.false) c.covered_plan.ensures
 
 pub plan_of_spec : {M : Type 1} → statement M
 plan_of_spec =

@@ -7,37 +7,37 @@ use Rattle.plan_cover.proofs.Told.{CoverLeft, left-small, cover-start, cover-sto
 use Rattle.plan_cover.proofs.cover.Statement.{statement}
 use Rattle.plan_cover.proofs.cover.Tie as tie
 
-abbrev invariant-loop : tie.invariant-loop
+abbrev invariant-loop : tie.invariant-loop-i
 invariant-loop constraints b t p figures₀ i₀ figures i = CoverLeft constraints b i figures
 
-abbrev decreases-loop : tie.decreases-loop
+abbrev decreases-loop : tie.decreases-loop-i
 decreases-loop constraints b t p figures₀ i₀ figures i = p - i
 
-best-way-requires : tie.Need-best-way-requires invariant-loop decreases-loop
-best-way-requires c κs = given-ready c.before.before.before.before.before.before.requires (left-small c.before.before.loop.invariant)
+best-way-requires : tie.Need-best_way-best-requires invariant-loop decreases-loop
+best-way-requires c κs = given-ready c.requires (left-small c.loop-i.invariant)
 
-returns : tie.Need-returns invariant-loop decreases-loop
-returns c = cover-stopped c.before.before.before.before.before.loop.invariant c.before.before.best-way.result c.before.before.best-way.ensures c.if1.true
+returns : tie.Need-returns-then-not-best invariant-loop decreases-loop
+returns c = cover-stopped c.loop-i.invariant c.best_way-best.result c.best_way-best.ensures c.if-not-best.true
 
-mul-figures : tie.Need-overflow-mul-figures invariant-loop decreases-loop
+mul-figures : tie.Need-offset_bounds-figures-u invariant-loop decreases-loop
 mul-figures c =
-    let n = cover-number c.before.before.before.before.before.before.loop.invariant c.before.before.before.best-way.result c.before.before.before.best-way.ensures c.before.if1.false in
-    let few = c.before.before.before.before.before.before.before.before.before.before.requires.known.few in
+    let n = cover-number c.loop-i.invariant c.best_way-best.result c.best_way-best.ensures c.if-not-best.false in
+    let few = c.requires.known.few in
     search rules
 
-array-write-figures : tie.Need-array-write-figures invariant-loop decreases-loop
+array-write-figures : tie.Need-bounds-figures-u invariant-loop decreases-loop
 array-write-figures c =
-    let n = cover-number c.before.before.before.before.before.before.loop.invariant c.before.before.before.best-way.result c.before.before.before.best-way.ensures c.before.if1.false in
-    let few = c.before.before.before.before.before.before.before.before.before.before.requires.known.few in
+    let n = cover-number c.loop-i.invariant c.best_way-best.result c.best_way-best.ensures c.if-not-best.false in
+    let few = c.requires.known.few in
     omega arith
 
-loop-again : tie.Need-loop-preserved invariant-loop decreases-loop
+loop-again : tie.Need-loop-i-preserved invariant-loop decreases-loop
 loop-again c =
-    cover-again c.before.before.before.before.before.before.loop.invariant c.before.before.before.best-way.result c.before.before.before.best-way.ensures
-    c.before.before.before.before.before.before.before.before.before.before.requires.known.few c.before.if1.false (omega arith)
+    cover-again c.loop-i.invariant c.best_way-best.result c.best_way-best.ensures
+    c.requires.known.few c.if-not-best.false (omega arith)
 
-returns-2 : tie.Need-returns-2 invariant-loop decreases-loop
-returns-2 c = cover-done c.before.loop.invariant (omega arith)
+returns-2 : tie.Need-returns invariant-loop decreases-loop
+returns-2 c = cover-done c.loop-i.invariant (omega arith)
 
 pub cover_spec : {M : Type 1} → statement M
 cover_spec =

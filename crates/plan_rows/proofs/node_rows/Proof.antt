@@ -10,48 +10,48 @@ use Rattle.plan_rows.proofs.Nodes.{NodesGoing, nodes-start, nodes-next, nodes-ab
 use Rattle.plan_rows.proofs.node_rows.Statement.{statement}
 use Rattle.plan_rows.proofs.node_rows.Tie as tie
 
-abbrev invariant-loop : tie.invariant-loop
+abbrev invariant-loop : tie.invariant-loop-count
 invariant-loop constraints b t rows₀ p figures₀ count₀ sum₀ rows figures count sum = NodesGoing constraints b rows₀ rows figures count sum
 
-abbrev decreases-loop : tie.decreases-loop
+abbrev decreases-loop : tie.decreases-loop-count
 decreases-loop constraints b t rows₀ p figures₀ count₀ sum₀ rows figures count sum = p - count
 
-loop-holds : tie.Need-loop-init invariant-loop decreases-loop
+loop-holds : tie.Need-loop-count-init invariant-loop decreases-loop
 loop-holds c = nodes-start _ _ _
 
 -- no way is found
-returns : tie.Need-returns invariant-loop decreases-loop
+returns : tie.Need-returns-then-not-best invariant-loop decreases-loop
 returns c =
-    nodes-stop c.before.before.before.before.before.before.before.loop.invariant c.before.before.before.before.before.before.before.before.before.before.before.before.requires.0.known.few (omega arith)
-    (way-missing c.before.before.before.before.best-way.result _ c.before.before.before.before.best-way.ensures (not-true _ c.before.if1.true)) c.Stand-of.ensures
+    nodes-stop c.loop-count.invariant c.requires.0.known.few (omega arith)
+    (way-missing c.best_way-best.result _ c.best_way-best.ensures (not-true _ c.if-not-best.true)) c.stand_of.ensures
 
 -- a figure is above 65,536
-returns-2 : tie.Need-returns-2 invariant-loop decreases-loop
+returns-2 : tie.Need-returns-then-row-gt-MOST_READ invariant-loop decreases-loop
 returns-2 c =
-    nodes-above c.before.before.before.before.before.before.before.before.before.loop.invariant _ (omega arith)
-    (way-found c.before.before.before.before.before.before.best-way.result _ c.before.before.before.before.before.before.best-way.ensures (not-false _ c.before.before.before.if1.false)) c.before.if2.true c.stand-of2.ensures
+    nodes-above c.loop-count.invariant _ (omega arith)
+    (way-found c.best_way-best.result _ c.best_way-best.ensures (not-false _ c.if-not-best.false)) c.if-row-gt-MOST_READ.true c.stand_of-then-row-gt-MOST_READ.ensures
 
-array-write-figures : tie.Need-array-write-figures invariant-loop decreases-loop
+array-write-figures : tie.Need-bounds-figures-u invariant-loop decreases-loop
 array-write-figures c =
-    let h = (next-says _ _ _ _ (way-found c.before.before.before.before.before.before.before.before.before.before.before.best-way.result _ c.before.before.before.before.before.before.before.before.before.before.before.best-way.ensures (not-false _ c.before.before.before.before.before.before.before.before.if1.false))).node in
-    let few = c.before.before.before.before.before.before.before.before.before.before.before.before.before.before.before.before.before.before.before.requires.0.known.few in
+    let h = (next-says _ _ _ _ (way-found c.best_way-best.result _ c.best_way-best.ensures (not-false _ c.if-not-best.false))).node in
+    let few = c.requires.0.known.few in
     search rules
 
-add-sum : tie.Need-overflow-add-sum invariant-loop decreases-loop
+add-sum : tie.Need-overflow_add-sum invariant-loop decreases-loop
 add-sum c =
-    let most = c.before.before.before.before.before.before.before.before.before.before.before.before.before.before.before.loop.invariant.going.most in
-    let few = c.before.before.before.before.before.before.before.before.before.before.before.before.before.before.before.before.before.before.before.before.requires.0.known.few in
+    let most = c.loop-count.invariant.going.most in
+    let few = c.requires.0.known.few in
     search rules
 
-loop-again : tie.Need-loop-preserved invariant-loop decreases-loop
+loop-again : tie.Need-loop-count-preserved invariant-loop decreases-loop
 loop-again c =
-    nodes-next c.before.before.before.before.before.before.before.before.before.before.before.before.before.before.before.loop.invariant _ _ (omega arith)
-    (way-found c.before.before.before.before.before.before.before.before.before.before.before.before.best-way.result _ c.before.before.before.before.before.before.before.before.before.before.before.before.best-way.ensures (not-false _ c.before.before.before.before.before.before.before.before.before.if1.false))
-    (omega arith) (omega (arith, c.before.before.before.before.before.before.before.before.before.before.before.before.before.before.before.before.before.before.before.before.requires, c.before.before.before.before.before.before.before.before.before.before.before.before.before.before.before.loop.invariant.going.kept)) c.before.before.before.before.before.put-row.ensures
+    nodes-next c.loop-count.invariant _ _ (omega arith)
+    (way-found c.best_way-best.result _ c.best_way-best.ensures (not-false _ c.if-not-best.false))
+    (omega arith) (omega (arith, c.requires, c.loop-count.invariant.going.kept)) c.put_row.ensures
 
 -- each node has its row
-returns-3 : tie.Need-returns-3 invariant-loop decreases-loop
-returns-3 c = nodes-end c.before.before.loop.invariant c.before.before.before.before.before.before.before.requires.0.known.few (omega arith) c.stand-of3.ensures
+returns-3 : tie.Need-returns invariant-loop decreases-loop
+returns-3 c = nodes-end c.loop-count.invariant c.requires.0.known.few (omega arith) c.stand_of-2.ensures
 
 pub node_rows_spec : {M : Type 1} → statement M
 node_rows_spec =

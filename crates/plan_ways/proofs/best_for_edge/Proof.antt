@@ -12,20 +12,20 @@ use Rattle.plan_ways.proofs.Choosing.{best-step}
 use Rattle.plan_ways.proofs.best_for_edge.Statement.{statement}
 use Rattle.plan_ways.proofs.best_for_edge.Tie as tie
 
-abbrev invariant-loop : tie.invariant-loop
+abbrev invariant-loop : tie.invariant-loop-c
 invariant-loop constraints b t figures j n best₀ c₀ best c = BestLeft (λ c. flat_map (end_ways constraints b figures j c) (ends_of b j)) (constraints_in constraints) c (way_in best) (smallest (edge_ways constraints b figures j))
 
-abbrev decreases-loop : tie.decreases-loop
+abbrev decreases-loop : tie.decreases-loop-c
 decreases-loop constraints b t figures j n best₀ c₀ best c = n - c
 
-loop-holds : tie.Need-loop-init invariant-loop decreases-loop
-loop-holds c = best-begin _ _ _ _ c.no_way.ensures (edge-flat _ _ _ _)
+loop-holds : tie.Need-loop-c-init invariant-loop decreases-loop
+loop-holds c = best-begin _ _ _ _ c.no_way-best.ensures (edge-flat _ _ _ _)
 
-loop-again : tie.Need-loop-preserved invariant-loop decreases-loop
-loop-again c = best-step c.before.before.before.loop.invariant (omega arith) c.before.best-by.ensures c.better.ensures
+loop-again : tie.Need-loop-c-preserved invariant-loop decreases-loop
+loop-again c = best-step c.loop-c.invariant (omega arith) c.best_by.ensures c.better-best.ensures
 
 returns : tie.Need-returns invariant-loop decreases-loop
-returns c = best-done c.before.loop.invariant (omega arith)
+returns c = best-done c.loop-c.invariant (omega arith)
 
 pub best_for_edge_spec : {M : Type 1} → statement M
 best_for_edge_spec =

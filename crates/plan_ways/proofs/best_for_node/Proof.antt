@@ -11,20 +11,20 @@ use Rattle.plan_ways.proofs.Choosing.{best-step}
 use Rattle.plan_ways.proofs.best_for_node.Statement.{statement}
 use Rattle.plan_ways.proofs.best_for_node.Tie as tie
 
-abbrev invariant-loop : tie.invariant-loop
+abbrev invariant-loop : tie.invariant-loop-c
 invariant-loop constraints b t figures u n best₀ c₀ best c = BestLeft (node_by constraints b figures u) (constraints_in constraints) c (way_in best) (smallest (node_ways constraints b figures u))
 
-abbrev decreases-loop : tie.decreases-loop
+abbrev decreases-loop : tie.decreases-loop-c
 decreases-loop constraints b t figures u n best₀ c₀ best c = n - c
 
-loop-holds : tie.Need-loop-init invariant-loop decreases-loop
-loop-holds c = best-begin _ _ _ _ c.no_way.ensures (node-flat _ _ _ _)
+loop-holds : tie.Need-loop-c-init invariant-loop decreases-loop
+loop-holds c = best-begin _ _ _ _ c.no_way-best.ensures (node-flat _ _ _ _)
 
-loop-again : tie.Need-loop-preserved invariant-loop decreases-loop
-loop-again c = best-step c.before.before.before.loop.invariant (omega arith) c.before.node-way.ensures c.better.ensures
+loop-again : tie.Need-loop-c-preserved invariant-loop decreases-loop
+loop-again c = best-step c.loop-c.invariant (omega arith) c.node_way.ensures c.better-best.ensures
 
 returns : tie.Need-returns invariant-loop decreases-loop
-returns c = best-done c.before.loop.invariant (omega arith)
+returns c = best-done c.loop-c.invariant (omega arith)
 
 pub best_for_node_spec : {M : Type 1} → statement M
 best_for_node_spec =

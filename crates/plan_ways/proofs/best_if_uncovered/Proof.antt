@@ -4,11 +4,11 @@ use Rattle.plan_ways.proofs.Looking.{covered-none, uncovered-ways}
 use Rattle.plan_ways.proofs.best_if_uncovered.Statement.{statement}
 use Rattle.plan_ways.proofs.best_if_uncovered.Tie as tie
 
-returns : tie.Need-returns
-returns c = covered-none _ _ _ _ _ c.before.if1.true c.no_way.ensures
+returns : tie.Need-returns-then-figures-u-ne0
+returns c = covered-none _ _ _ _ _ c.if-figures-u-ne0.true c.no_way.ensures
 
-returns-2 : tie.Need-returns-2
-returns-2 c = uncovered-ways _ _ _ _ _ c.before.if1.false c.best-for-node.ensures
+returns-2 : tie.Need-returns
+returns-2 c = uncovered-ways _ _ _ _ _ c.if-figures-u-ne0.false c.best_for_node.ensures
 
 pub best_if_uncovered_spec : {M : Type 1} → statement M
 best_if_uncovered_spec = tie.close (tie.spec (λ c. search rules) (λ c. search rules) (λ c κs. search rules) returns (λ c κs. search rules) returns-2)

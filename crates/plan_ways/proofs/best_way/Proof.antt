@@ -13,20 +13,20 @@ use Rattle.plan_ways.proofs.Choosing.{best-step}
 use Rattle.plan_ways.proofs.best_way.Statement.{statement}
 use Rattle.plan_ways.proofs.best_way.Tie as tie
 
-abbrev invariant-loop : tie.invariant-loop
+abbrev invariant-loop : tie.invariant-loop-u
 invariant-loop constraints b t figures p best₀ u₀ best u = BestLeft (λ u. cond (not (covered figures u)) (node_ways constraints b figures u) []) (size_of b) u (way_in best) (smallest (all_ways constraints b figures))
 
-abbrev decreases-loop : tie.decreases-loop
+abbrev decreases-loop : tie.decreases-loop-u
 decreases-loop constraints b t figures p best₀ u₀ best u = p - u
 
-loop-holds : tie.Need-loop-init invariant-loop decreases-loop
-loop-holds c = best-begin _ _ _ _ c.no_way.ensures (all-flat _ _ _)
+loop-holds : tie.Need-loop-u-init invariant-loop decreases-loop
+loop-holds c = best-begin _ _ _ _ c.no_way-best.ensures (all-flat _ _ _)
 
-loop-again : tie.Need-loop-preserved invariant-loop decreases-loop
-loop-again c = best-step c.before.before.before.loop.invariant (omega arith) c.before.best-if-uncovered.ensures c.better.ensures
+loop-again : tie.Need-loop-u-preserved invariant-loop decreases-loop
+loop-again c = best-step c.loop-u.invariant (omega arith) c.best_if_uncovered.ensures c.better-best.ensures
 
 returns : tie.Need-returns invariant-loop decreases-loop
-returns c = best-done c.before.loop.invariant (omega arith)
+returns c = best-done c.loop-u.invariant (omega arith)
 
 pub best_way_spec : {M : Type 1} → statement M
 best_way_spec =

@@ -3,8 +3,6 @@ use borrow.Author.Rules.{rules}
 use Rattle.plan_ways.proofs.Choosing.{first-alone, second-alone, second-smaller, first-smaller}
 use Rattle.plan_ways.proofs.better.Statement.{statement}
 use Rattle.plan_ways.proofs.better.Tie as tie
-use Rattle.plan_ways.proofs.better.Reads as reads
-use Rattle.plan_ways.proofs.better.Lts as lts
 
 pub better_spec : {M : Type 1} → statement M
 better_spec =

@@ -13,22 +13,22 @@ use Rattle.plan_ways.proofs.Choosing.{best-step, least-start}
 use Rattle.plan_ways.proofs.least.Statement.{statement}
 use Rattle.plan_ways.proofs.least.Tie as tie
 
-abbrev invariant-loop : tie.invariant-loop
+abbrev invariant-loop : tie.invariant-loop-w
 invariant-loop b t figures u label p best₀ w₀ best w =
     BestLeft (λ w. cond (suited b figures u label w) (node_only (figure_of figures) w ∷ []) []) (size_of b) w (way_in best)
     (least (figure_of figures) (covered_with b figures u label))
 
-abbrev decreases-loop : tie.decreases-loop
+abbrev decreases-loop : tie.decreases-loop-w
 decreases-loop b t figures u label p best₀ w₀ best w = p - w
 
-loop-holds : tie.Need-loop-init invariant-loop decreases-loop
-loop-holds c = least-start _ _ _ _ _ c.no_way.ensures
+loop-holds : tie.Need-loop-w-init invariant-loop decreases-loop
+loop-holds c = least-start _ _ _ _ _ c.no_way-best.ensures
 
-loop-again : tie.Need-loop-preserved invariant-loop decreases-loop
-loop-again c = best-step c.before.before.before.loop.invariant (omega arith) c.before.node-only.ensures c.better.ensures
+loop-again : tie.Need-loop-w-preserved invariant-loop decreases-loop
+loop-again c = best-step c.loop-w.invariant (omega arith) c.node_only.ensures c.better-best.ensures
 
 returns : tie.Need-returns invariant-loop decreases-loop
-returns c = best-done c.before.loop.invariant (omega arith)
+returns c = best-done c.loop-w.invariant (omega arith)
 
 pub least_spec : {M : Type 1} → statement M
 least_spec =

@@ -4,11 +4,11 @@ use Rattle.plan_ways.proofs.Ends.{with-fixed, with-free}
 use Rattle.plan_ways.proofs.least_with.Statement.{statement}
 use Rattle.plan_ways.proofs.least_with.Tie as tie
 
-returns : tie.Need-returns
-returns c = with-fixed _ _ _ _ _ c.before.before.before.before.requires.1.1 _ c.before.before.suits.ensures _ c.before.if1.true c.node-only.ensures
+returns : tie.Need-returns-then-suits
+returns c = with-fixed _ _ _ _ _ c.requires.1.1 _ c.suits.ensures _ c.if-suits.true c.node_only.ensures
 
-returns-2 : tie.Need-returns-2
-returns-2 c = with-free _ _ _ _ _ c.before.before.before.before.requires.1.1 _ c.before.before.suits.ensures _ c.before.if1.false c.least.ensures
+returns-2 : tie.Need-returns
+returns-2 c = with-free _ _ _ _ _ c.requires.1.1 _ c.suits.ensures _ c.if-suits.false c.least.ensures
 
 pub least_with_spec : {M : Type 1} → statement M
 least_with_spec = tie.close (tie.spec (λ c κs. search rules) (λ c κs. search rules) returns (λ c κs. search rules) returns-2)

@@ -5,11 +5,11 @@ use Rattle.plan_ways.proofs.Choosing.{only-told, only-no}
 use Rattle.plan_ways.proofs.node_only.Statement.{statement}
 use Rattle.plan_ways.proofs.node_only.Tie as tie
 
-returns : tie.Need-returns
-returns c = only-told _ _ _ _ _ _ c.before.before.before.suits.ensures _ c.before.before.if1.true c.wide.ensures
+returns : tie.Need-returns-then-suits
+returns c = only-told _ _ _ _ _ _ c.suits.ensures _ c.if-suits.true c.wide-figure.ensures
 
-returns-2 : tie.Need-returns-2
-returns-2 c = c.no_way.ensures ∙ only-no _ _ _ _ _ _ c.before.before.suits.ensures c.before.if1.false
+returns-2 : tie.Need-returns
+returns-2 c = c.no_way.ensures ∙ only-no _ _ _ _ _ _ c.suits.ensures c.if-suits.false
 
 pub node_only_spec : {M : Type 1} → statement M
 node_only_spec =

@@ -4,11 +4,11 @@ use Rattle.plan_ways.proofs.Ends.{slot-free, slot-with}
 use Rattle.plan_ways.proofs.slot_with.Statement.{statement}
 use Rattle.plan_ways.proofs.slot_with.Tie as tie
 
-returns : tie.Need-returns
-returns c = slot-free _ _ _ _ c.before.before.if1.true c.slot_of.ensures
+returns : tie.Need-returns-then-label-eq0
+returns c = slot-free _ _ _ _ c.if-label-eq0.true c.slot_of.ensures
 
-returns-2 : tie.Need-returns-2
-returns-2 c = slot-with _ _ _ _ _ _ _ c.before.before.before.before.requires.1.0 c.slot-of2.ensures c.before.least-with.ensures
+returns-2 : tie.Need-returns
+returns-2 c = slot-with _ _ _ _ _ _ _ c.requires.1.0 c.slot_of-2.ensures c.least_with.ensures
 
 pub slot_with_spec : {M : Type 1} → statement M
 slot_with_spec = tie.close (tie.spec (λ c κs. search rules) (λ c κs. search rules) returns (λ c κs. search rules) (λ c κs. search rules) returns-2)

@@ -4,10 +4,10 @@ use Rattle.store_finger.proofs.Keeping.{keeping}
 use Rattle.store_finger.proofs.climb.Statement.{statement}
 use Rattle.store_finger.proofs.climb.Tie as tie
 
-abbrev invariant-loop : tie.invariant-loop
+abbrev invariant-loop : tie.invariant-loop-kept
 invariant-loop groups key path n kept₀ kept = kept ≤ n
 
-abbrev decreases-loop : tie.decreases-loop
+abbrev decreases-loop : tie.decreases-loop-kept
 decreases-loop groups key path n kept₀ kept = kept
 
 pub climb_spec : {M : Type 1} → statement M

@@ -8,10 +8,10 @@ use Rattle.laws.specs.Turns.{turns}
 use Rattle.store_records.proofs.constraint_new.Statement.{statement}
 use Rattle.store_records.proofs.constraint_new.Tie as tie
 
-abbrev invariant-loop : tie.invariant-loop
+abbrev invariant-loop : tie.invariant-loop-d
 invariant-loop constraints c d₀ d = AllLeft (λ d. not (alike (constraint_at constraints d) (constraint_at constraints c))) c d (all_from (λ d. not (alike (constraint_at constraints d) (constraint_at constraints c))) 0 c)
 
-abbrev decreases-loop : tie.decreases-loop
+abbrev decreases-loop : tie.decreases-loop-d
 decreases-loop constraints c d₀ d = c - d
 
 pub constraint_new_spec : {M : Type 1} → statement M

@@ -6,10 +6,10 @@ use Rattle.laws.specs.Turns.{turns}
 use Rattle.store_records.proofs.constraints_right.Statement.{statement}
 use Rattle.store_records.proofs.constraints_right.Tie as tie
 
-abbrev invariant-loop : tie.invariant-loop
+abbrev invariant-loop : tie.invariant-loop-c
 invariant-loop constraints k c₀ c = AllLeft (constraint_right constraints) k c (constraints_right constraints)
 
-abbrev decreases-loop : tie.decreases-loop
+abbrev decreases-loop : tie.decreases-loop-c
 decreases-loop constraints k c₀ c = k - c
 
 pub constraints_right_spec : {M : Type 1} → statement M

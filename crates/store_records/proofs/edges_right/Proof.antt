@@ -6,10 +6,10 @@ use Rattle.laws.specs.Turns.{turns}
 use Rattle.store_records.proofs.edges_right.Statement.{statement}
 use Rattle.store_records.proofs.edges_right.Tie as tie
 
-abbrev invariant-loop : tie.invariant-loop
+abbrev invariant-loop : tie.invariant-loop-i
 invariant-loop n edges m i₀ i = AllLeft (edge_right n edges) m i (edges_right n edges)
 
-abbrev decreases-loop : tie.decreases-loop
+abbrev decreases-loop : tie.decreases-loop-i
 decreases-loop n edges m i₀ i = m - i
 
 pub edges_right_spec : {M : Type 1} → statement M

@@ -6,10 +6,10 @@ use Rattle.laws.specs.Turns.{turns}
 use Rattle.store_records.proofs.nodes_right.Statement.{statement}
 use Rattle.store_records.proofs.nodes_right.Tie as tie
 
-abbrev invariant-loop : tie.invariant-loop
+abbrev invariant-loop : tie.invariant-loop-v
 invariant-loop nodes n v₀ v = AllLeft (node_right nodes) n v (nodes_right nodes)
 
-abbrev decreases-loop : tie.decreases-loop
+abbrev decreases-loop : tie.decreases-loop-v
 decreases-loop nodes n v₀ v = n - v
 
 pub nodes_right_spec : {M : Type 1} → statement M

@@ -3,10 +3,10 @@ use borrow.Author.Rules.{rules}
 use Rattle.build.proofs.count.own_constraints_right.Statement.{statement}
 use Rattle.build.proofs.count.own_constraints_right.Tie as tie
 
-constraint-part-requires : tie.Need-constraint-part-requires
+constraint-part-requires : tie.Need-constraint_part-requires
 constraint-part-requires c κs = search rules
 
-constraints-right-requires : tie.Need-constraints-right-requires
+constraints-right-requires : tie.Need-constraints_right-requires
 constraints-right-requires c κs = search rules
 
 returns : tie.Need-returns

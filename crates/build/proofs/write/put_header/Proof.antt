@@ -4,59 +4,59 @@ use Rattle.build.proofs.Built.{header-written}
 use Rattle.build.proofs.write.put_header.Statement.{statement}
 use Rattle.build.proofs.write.put_header.Tie as tie
 
-node-count-requires : tie.Need-node-count-requires
+node-count-requires : tie.Need-node_count-n-requires
 node-count-requires c κs = search rules
 
-edge-count-requires : tie.Need-edge-count-requires
+edge-count-requires : tie.Need-edge_count-m-requires
 edge-count-requires c κs = search rules
 
-constraint-count-requires : tie.Need-constraint-count-requires
+constraint-count-requires : tie.Need-constraint_count-k-requires
 constraint-count-requires c κs = search rules
 
-put-six-requires : tie.Need-put-six-requires
+put-six-requires : tie.Need-put_six-requires
 put-six-requires c κs = search rules
 
-mul-edges : tie.Need-overflow-mul-edges
+mul-edges : tie.Need-overflow_mul-edges
 mul-edges c = search rules
 
-add-edges : tie.Need-overflow-add-edges
+add-edges : tie.Need-overflow_add-edges
 add-edges c = search rules
 
-mul-constraints : tie.Need-overflow-mul-constraints
+mul-constraints : tie.Need-overflow_mul-constraints
 mul-constraints c = search rules
 
-add-constraints : tie.Need-overflow-add-constraints
+add-constraints : tie.Need-overflow_add-constraints
 add-constraints c = search rules
 
-mul-table : tie.Need-overflow-mul-table
+mul-table : tie.Need-overflow_mul-table
 mul-table c = search rules
 
-add-table : tie.Need-overflow-add-table
+add-table : tie.Need-overflow_add-table
 add-table c = search rules
 
-mul-lists : tie.Need-overflow-mul-lists
+mul-lists : tie.Need-overflow_mul-lists
 mul-lists c = search rules
 
-add-lists : tie.Need-overflow-add-lists
+add-lists : tie.Need-overflow_add-lists
 add-lists c = search rules
 
-mul-put-six : tie.Need-overflow-mul-put-six
+mul-put-six : tie.Need-overflow_mul-entries
 mul-put-six c = search rules
 
-add-put-six : tie.Need-overflow-add-put-six
+add-put-six : tie.Need-overflow_add-lists-2
 add-put-six c = search rules
 
-put-six-requires-2 : tie.Need-put-six-requires-2
+put-six-requires-2 : tie.Need-put_six-requires-2
 put-six-requires-2 c κs = search rules
 
-same-length : tie.Need-same-length
+same-length : tie.Need-shape_of-room
 same-length c = search rules
 
 returns : tie.Need-returns
 returns c =
-    let s = c.before.before.before.before.before.before.before.before.before.before.before.before.before in
-    header-written _ _ _ _ _ _ _ _ _ _ _ c.before.before.before.before.before.before.before.before.before.before.node-count.ensures c.before.before.before.before.before.before.before.before.before.IsEdge-count.ensures c.before.before.before.before.before.before.before.before.constraint-count.ensures s.requires.0.1
-    c.before.before.before.before.before.before.put_six.ensures c.before.before.put-six2.ensures
+    let s = c in
+    header-written _ _ _ _ _ _ _ _ _ _ _ c.node_count-n.ensures c.edge_count-m.ensures c.constraint_count-k.ensures s.requires.0.1
+    c.put_six.ensures c.put_six-2.ensures
 
 pub put_header_spec : {M : Type 1} → statement M
 put_header_spec =

@@ -14,10 +14,10 @@ use Rattle.laws.specs.Range.{range-next, range-none, length-range}
 use Rattle.build_edges.proofs.adjacency.labelled.Statement.{statement}
 use Rattle.build_edges.proofs.adjacency.labelled.Tie as tie
 
-abbrev invariant-loop : tie.invariant-loop
+abbrev invariant-loop : tie.invariant-loop-v
 invariant-loop nodes l out₀ n k₀ v₀ out k v = ((v ≤ n) × (k ≤ v)) × (length out ≡ length out₀) × Kept (has_label nodes l) (labelled_in nodes l) n out k (range v (n - v))
 
-abbrev decreases-loop : tie.decreases-loop
+abbrev decreases-loop : tie.decreases-loop-v
 decreases-loop nodes l out₀ n k₀ v₀ out k v = n - v
 
 start : (nodes : List ℕ) (l : ℕ) (out : List ℕ) → nodes_in nodes ≤ length out
@@ -25,23 +25,23 @@ start : (nodes : List ℕ) (l : ℕ) (out : List ℕ) → nodes_in nodes ≤ len
 unfolding labelled_in
 start nodes l out h = rw sub-zero (begun (has_label nodes l) (nodes_in nodes) out (range 0 (nodes_in nodes)) (rw length-range (omega arith)) h)
 
-loop-again : tie.Need-loop-preserved invariant-loop decreases-loop
+loop-again : tie.Need-loop-v-preserved-then-has_label invariant-loop decreases-loop
 loop-again c =
-    let turn = c.before.before in
-    let inv = turn.before.loop.invariant in
-    ((omega arith, omega arith), simp length-set inv.1, taken (rw (range-next _ _ turn.loop-test.true) at inv.2) (sym c.before.has-label.ensures ∙ c.if1.true))
+    let turn = c in
+    let inv = turn.loop-v.invariant in
+    ((omega arith, omega arith), simp length-set inv.1, taken (rw (range-next _ _ turn.loop-v-test.true) at inv.2) (sym c.has_label.ensures ∙ c.if-has_label.true))
 
-loop-again-2 : tie.Need-loop-preserved-2 invariant-loop decreases-loop
+loop-again-2 : tie.Need-loop-v-preserved invariant-loop decreases-loop
 loop-again-2 c =
-    let turn = c.before.before in
-    let inv = turn.before.loop.invariant in
-    ((omega arith, omega arith), inv.1, skipped (rw (range-next _ _ turn.loop-test.true) at inv.2) (sym c.before.has-label.ensures ∙ c.if1.false))
+    let turn = c in
+    let inv = turn.loop-v.invariant in
+    ((omega arith, omega arith), inv.1, skipped (rw (range-next _ _ turn.loop-v-test.true) at inv.2) (sym c.has_label.ensures ∙ c.if-has_label.false))
 
 returns : tie.Need-returns invariant-loop decreases-loop
-returns c = ended (rw (range-none _ _ c.loop-test.false) at c.before.loop.invariant.2)
+returns c = ended (rw (range-none _ _ c.loop-v-test.false) at c.loop-v.invariant.2)
 
 pub labelled_spec : {M : Type 1} → statement M
 labelled_spec =
     tie.close
-    (tie.spec invariant-loop decreases-loop (λ c. ((omega arith, omega arith), refl, start _ _ _ c.before.before.requires.0)) (λ c. search rules) (λ c κs. search rules) (λ c. search rules) (λ c. search rules) (λ c. search rules) (λ c. search rules)
-    (λ c. search rules) loop-again (λ c. search rules) loop-again-2 (λ c. c.before.loop.invariant.1) returns)
+    (tie.spec invariant-loop decreases-loop (λ c. ((omega arith, omega arith), refl, start _ _ _ c.requires.0)) (λ c. search rules) (λ c κs. search rules) (λ c. search rules) (λ c. search rules) (λ c. search rules) (λ c. search rules)
+    (λ c. search rules) loop-again (λ c. search rules) loop-again-2 (λ c. c.loop-v.invariant.1) returns)

@@ -9,10 +9,10 @@ use Rattle.build_edges.proofs.Edges.{search-start}
 use Rattle.build_edges.proofs.adjacency.lower_edge.Statement.{statement}
 use Rattle.build_edges.proofs.adjacency.lower_edge.Tie as tie
 
-abbrev invariant-loop : tie.invariant-loop
+abbrev invariant-loop : tie.invariant-loop-low
 invariant-loop edges x low₀ high₀ low high = HalvingLeft (is_below (forward_words edges) x) (edges_in edges) low high (lower x (forward_words edges))
 
-abbrev decreases-loop : tie.decreases-loop
+abbrev decreases-loop : tie.decreases-loop-low
 decreases-loop edges x low₀ high₀ low high = high - low
 
 pub lower_edge_spec : {M : Type 1} → statement M

@@ -7,7 +7,7 @@ use Rattle.build_edges.proofs.adjacency.wide_at.Tie as tie
 
 returns : tie.Need-returns
 unfolding forward_at
-returns c = cc (ap (λ e. e.from) c.before.before.edge_at.ensures, ap (λ e. e.to) c.before.before.edge_at.ensures)
+returns c = cc (ap (λ e. e.from) c.edge_at-edge.ensures, ap (λ e. e.to) c.edge_at-edge.ensures)
 
 pub wide_at_spec : {M : Type 1} → statement M
 wide_at_spec = tie.close (tie.spec (λ c κs. search rules) (λ c. search rules) (λ c. search rules) (λ c. search rules) (λ c. search rules) returns)

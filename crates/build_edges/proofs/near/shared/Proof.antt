@@ -5,12 +5,12 @@ use Rattle.build_edges.proofs.Nearby.{shared-from}
 use Rattle.build_edges.proofs.near.shared.Statement.{statement}
 use Rattle.build_edges.proofs.near.shared.Tie as tie
 
-returns-2 : tie.Need-returns-2
+returns-2 : tie.Need-returns-then-near-list
 returns-2 c =
-    let test = c.before.before.before.before in
-    let s = test.before.before.before.before.before.before in
-    let done = c.before.before.shared-near.ensures in
-    (omega arith, shared-from _ _ _ _ _ test.before.words_of.ensures done.1 s.requires.1.0 s.requires.1.1 (omega arith))
+    let test = c in
+    let s = test in
+    let done = c.shared_near.ensures in
+    (omega arith, shared-from _ _ _ _ _ test.words_of-near.ensures done.1 s.requires.1.0 s.requires.1.1 (omega arith))
 
 pub shared_spec : {M : Type 1} → statement M
 shared_spec =

@@ -6,45 +6,45 @@ use Rattle.build_edges.proofs.Nearby.{set-front, few-set, tried-set, tried-all}
 use Rattle.build_edges.proofs.near.tried.Statement.{statement}
 use Rattle.build_edges.proofs.near.tried.Tie as tie
 
-gather-requires : tie.Need-gather-requires
+gather-requires : tie.Need-gather-k-requires
 gather-requires c κs =
-    let s = c.before.before.before.before.before.before in
+    let s = c in
     (s.requires.0.0, s.requires.1.1.strict)
 
-slice-relend-prefix-to-set : tie.Need-slice-relend-prefix-to-set
+slice-relend-prefix-to-set : tie.Need-slice_bounds-to_set-end
 slice-relend-prefix-to-set c = search rules
 
-slice-aggregate-to-set : tie.Need-slice-aggregate-to-set
+slice-aggregate-to-set : tie.Need-slice_bounds-to_set-end-then-k-le65536
 slice-aggregate-to-set c = simp length-take (omega arith)
 
-to-set-requires : tie.Need-to-set-requires
+to-set-requires : tie.Need-to_set-requires
 to-set-requires c κs = simp length-take (omega arith)
 
-same-length : tie.Need-same-length
+same-length : tie.Need-shape_of-out-then-k-le65536
 same-length c = search rules
 
-same-length-2 : tie.Need-same-length-2
+same-length-2 : tie.Need-shape_of-scratch-then-k-le65536
 same-length-2 c = search rules
 
-returns : tie.Need-returns
+returns : tie.Need-returns-then-k-le65536
 returns c =
-    let set = c.before.before.before.before in
-    let test = set.before.before.before in
-    let s = test.before.before.before.before.before.before.before.before.before.before in
-    let found = set-front _ _ _ _ _ (test.before.before.before.gather.ensures test.if1.true) set.to_set.ensures.0 set.to_set.ensures.1.0 in (
-      few-set _ _ _ 65536 set.to_set.ensures.0 set.to_set.ensures.1.0 set.to_set.auto.0 (simp length-take (omega arith)),
+    let set = c in
+    let test = set in
+    let s = test in
+    let found = set-front _ _ _ _ _ (test.gather-k.ensures test.if-k-le65536.true) set.to_set.ensures.0 set.to_set.ensures.1.0 in (
+      few-set _ _ _ 65536 set.to_set.ensures.0 set.to_set.ensures.1.0 set.to_set.auto.words (simp length-take (omega arith)),
       tried-set s.requires.1.1 found.1,
     )
 
 labelled-requires : tie.Need-labelled-requires
 labelled-requires c κs = search rules
 
-same-length-3 : tie.Need-same-length-3
+same-length-3 : tie.Need-shape_of-out
 same-length-3 c = search rules
 
-returns-2 : tie.Need-returns-2
+returns-2 : tie.Need-returns
 returns-2 c =
-    let done = c.before.before.labelled.ensures in
+    let done = c.labelled.ensures in
     (omega arith, tried-all done.1)
 
 pub tried_spec : {M : Type 1} → statement M

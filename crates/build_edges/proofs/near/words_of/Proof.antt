@@ -5,16 +5,16 @@ use Rattle.build_edges.proofs.Nearby.{words-found, found-order}
 use Rattle.build_edges.proofs.near.words_of.Statement.{statement}
 use Rattle.build_edges.proofs.near.words_of.Tie as tie
 
-sub-result : tie.Need-overflow-sub-result
-sub-result c = found-order _ _ _ _ c.before.before.before.requires.1 c.before.lower-bound.ensures.0 c.lower-bound2.ensures.0
+sub-result : tie.Need-slice_bounds-result-count
+sub-result c = found-order _ _ _ _ c.requires.1 c.lower_bound-start.ensures.0 c.lower_bound-end.ensures.0
 
-part-result-start : tie.Need-slice-bounds-result-start
+part-result-start : tie.Need-slice_bounds-result-start
 part-result-start c =
-    let h = found-order _ _ _ _ c.before.before.before.requires.1 c.before.lower-bound.ensures.0 c.lower-bound2.ensures.0 in
+    let h = found-order _ _ _ _ c.requires.1 c.lower_bound-start.ensures.0 c.lower_bound-end.ensures.0 in
     omega arith
 
 returns : tie.Need-returns
-returns c = words-found _ _ _ _ c.before.before.before.before.requires.1 c.before.before.lower-bound.ensures.0 c.before.lower-bound2.ensures.0
+returns c = words-found _ _ _ _ c.requires.1 c.lower_bound-start.ensures.0 c.lower_bound-end.ensures.0
 
 pub words_of_spec : {M : Type 1} → statement M
 words_of_spec =

@@ -6,25 +6,25 @@ use Rattle.build_edges.proofs.Starting.{Running, run-start, run-next, run-done}
 use Rattle.build_edges.proofs.starts.fill.Statement.{statement}
 use Rattle.build_edges.proofs.starts.fill.Tie as tie
 
-abbrev invariant-loop : tie.invariant-loop
+abbrev invariant-loop : tie.invariant-loop-i
 invariant-loop out₀ from to x i₀ out i = (i ≤ to) × Running from x out₀ out i
 
-abbrev decreases-loop : tie.decreases-loop
+abbrev decreases-loop : tie.decreases-loop-i
 decreases-loop out₀ from to x i₀ out i = to - i
 
-slice-write-out : tie.Need-slice-write-out invariant-loop decreases-loop
+slice-write-out : tie.Need-bounds-out-i invariant-loop decreases-loop
 slice-write-out c = search rules
 
-loop-again : tie.Need-loop-preserved invariant-loop decreases-loop
+loop-again : tie.Need-loop-i-preserved invariant-loop decreases-loop
 loop-again c =
-    let inv = c.before.loop.invariant.1 in
+    let inv = c.loop-i.invariant.1 in
     (omega arith, run-next inv (omega arith))
 
 returns : tie.Need-returns invariant-loop decreases-loop
-returns c = run-done _ c.before.before.requires.0 c.before.loop.invariant.1 c.before.loop.invariant.0 c.loop-test.false
+returns c = run-done _ c.requires.0 c.loop-i.invariant.1 c.loop-i.invariant.0 c.loop-i-test.false
 
 pub fill_spec : {M : Type 1} → statement M
 fill_spec =
     tie.close
     (tie.spec invariant-loop decreases-loop (λ c. (omega arith, run-start _ _ _)) (λ c. search rules) slice-write-out (λ c. search rules) (λ c. search rules)
-    loop-again (λ c. c.before.loop.invariant.1.same) returns)
+    loop-again (λ c. c.loop-i.invariant.1.same) returns)

@@ -7,54 +7,54 @@ use native.Mathlib.Omega.{arith}
 use Rattle.build_index.proofs.passes.visit_none.Statement.{statement}
 use Rattle.build_index.proofs.passes.visit_none.Tie as tie
 
-labelled-requires : tie.Need-labelled-requires
+labelled-requires : tie.Need-labelled-k-requires
 labelled-requires c κs =
-    let r = c.before.before.before.before.before.before.before.before.before.before.before.before.before.requires.1 in
+    let r = c.requires.1 in
     let few = r.held.few in
     let one = r.one in
     (omega arith, few)
 
-slice-reshare-prefix-walk : tie.Need-slice-reshare-prefix-walk
+slice-reshare-prefix-walk : tie.Need-slice_bounds-walk-end
 slice-reshare-prefix-walk c =
-    let r = c.before.before.before.before.before.before.before.before.before.before.before.before.before.before.before.before.requires.1 in
+    let r = c.requires.1 in
     let few = r.held.few in
     let one = r.one in
-    let k = c.before.before.labelled.ensures.0 in
-    let kept = c.before.before.labelled.auto.1.1.0 in
+    let k = c.labelled-k.ensures.0 in
+    let kept = c.labelled-k.auto.out in
     search rules
 
-slice-aggregate-walk : tie.Need-slice-aggregate-walk
+slice-aggregate-walk : tie.Need-slice_bounds-walk-end-2
 slice-aggregate-walk c =
-    let r = c.before.before.before.before.before.before.before.before.before.before.before.before.before.before.before.before.before.requires.1 in
+    let r = c.requires.1 in
     let few = r.held.few in
     let one = r.one in
-    let k = c.before.before.before.labelled.ensures.0 in
-    let kept = c.before.before.before.labelled.auto.1.1.0 in
+    let k = c.labelled-k.ensures.0 in
+    let kept = c.labelled-k.auto.out in
     simp length-take (omega arith)
 
 walk-requires : tie.Need-walk-requires
-walk-requires c κs = fit-none c.before.before.before.before.before.before.before.before.before.before.before.before.before.before.before.before.before.before.before.before.before.before.requires.1 _ c.before.before.before.before.before.before.before.before.before.before.before.before.before.before.before.before.before.before.before.before.before.before.requires.0 refl c.before.before.before.before.before.before.before.before.labelled.ensures.1
+walk-requires c κs = fit-none c.requires.1 _ c.requires.0 refl c.labelled-k.ensures.1
 
-same-length : tie.Need-same-length
+same-length : tie.Need-shape_of-one
 same-length c = search rules
 
-same-length-2 : tie.Need-same-length-2
+same-length-2 : tie.Need-shape_of-two
 same-length-2 c = search rules
 
-same-length-3 : tie.Need-same-length-3
+same-length-3 : tie.Need-shape_of-three
 same-length-3 c = search rules
 
-same-length-4 : tie.Need-same-length-4
+same-length-4 : tie.Need-shape_of-second
 same-length-4 c = search rules
 
-same-length-5 : tie.Need-same-length-5
+same-length-5 : tie.Need-shape_of-third
 same-length-5 c = search rules
 
-same-length-6 : tie.Need-same-length-6
+same-length-6 : tie.Need-shape_of-room
 same-length-6 c = search rules
 
 returns : tie.Need-returns
-returns c = none-dealt _ _ _ _ _ _ _ _ _ _ refl _ c.before.before.before.before.before.before.before.before.before.before.before.before.before.before.before.before.before.before.before.labelled.ensures.1 c.before.before.before.before.before.before.before.before.before.before.walk.ensures
+returns c = none-dealt _ _ _ _ _ _ _ _ _ _ refl _ c.labelled-k.ensures.1 c.walk.ensures
 
 pub visit_none_spec : {M : Type 1} → statement M
 visit_none_spec =

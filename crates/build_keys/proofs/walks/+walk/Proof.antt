@@ -34,114 +34,114 @@ walk-below t = and 12 walk-kinds.ps (falls 12 walk-kinds.ps ◌<◌ μ-walk t) w
 abbrev walk-calls : ℕ → walk-lts.Claims
 walk-calls t = (emit-one-reads.Asked, emit-one-reads.Learnt, paired-reads.Asked, paired-reads.Learnt, run-end-reads.Asked, run-end-reads.Learnt, part-of-reads.Asked, part-of-reads.Learnt, with-id-reads.Asked, with-id-reads.Learnt, rest-of-reads.Asked, rest-of-reads.Learnt, walk-below t, walk.Post)
 
-abbrev walk-Inv-loop : walk-lts.invariant-loop
+abbrev walk-Inv-loop : walk-lts.invariant-loop-i
 walk-Inv-loop task nodes joined starts edges begins l left key at list one₀ two₀ first second₀ store room₀ n none₀ empty₀ t₀ i₀ one two second room none empty t i =
     ((length one ≡ length one₀) × (length two ≡ length two₀) × (length second ≡ length second₀) × (length room ≡ length room₀) × (length none ≡ 1) × (length empty ≡ 1))
     × WalkGoing task nodes (set_of joined) (forward_words edges) left key at list store t₀ room₀ first n i t room
 
-abbrev walk-μ-loop : walk-lts.decreases-loop
+abbrev walk-μ-loop : walk-lts.decreases-loop-i
 walk-μ-loop task nodes joined starts edges begins l left key at list one₀ two₀ first second₀ store room₀ n none₀ empty₀ t₀ i₀ one two second room none empty t i =
     n - i
 
-walk-returns : (t : ℕ) → walk-lts.Need-returns (walk-calls t) (walk-at t) walk.Post walk-Inv-loop walk-μ-loop
-walk-returns t c = none c.if1.true
+walk-returns : (t : ℕ) → walk-lts.Need-returns-then-list-task (walk-calls t) (walk-at t) walk.Post walk-Inv-loop walk-μ-loop
+walk-returns t c = none c.if-list-task.true
 
-walk-returns-2 : (t : ℕ) → walk-lts.Need-returns-2 (walk-calls t) (walk-at t) walk.Post walk-Inv-loop walk-μ-loop
-walk-returns-2 t c = whole c.before.before.before.before.before.before.if1.false c.before.before.before.before.if2.true c.before.before.before.before.before.before.before.before.before.before.before.before.before.before.before.before.before.before.before.before.requires.1.unused c.before.before.emit-one.ensures
+walk-returns-2 : (t : ℕ) → walk-lts.Need-returns-then-left-eq0 (walk-calls t) (walk-at t) walk.Post walk-Inv-loop walk-μ-loop
+walk-returns-2 t c = whole c.if-list-task.false c.if-left-eq0.true c.requires.1.unused c.emit_one.ensures
 
-walk-paired-requires : (t : ℕ) → walk-lts.Need-paired-requires (walk-calls t) (walk-at t) walk.Post walk-Inv-loop walk-μ-loop
+walk-paired-requires : (t : ℕ) → walk-lts.Need-paired-n-requires (walk-calls t) (walk-at t) walk.Post walk-Inv-loop walk-μ-loop
 walk-paired-requires t c κs =
-    let fit = c.before.before.before.before.before.before.before.before.before.before.before.before.before.before.before.before.before.before.requires.1 in
-    let long = fit.first c.before.before.if2.false in
+    let fit = c.requires.1 in
+    let long = fit.first c.if-left-eq0.false in
     ((long.1, long.0), (fit.held, fit.listed))
 
-walk-loop-holds : (t : ℕ) → walk-lts.Need-loop-init (walk-calls t) (walk-at t) walk.Post walk-Inv-loop walk-μ-loop
+walk-loop-holds : (t : ℕ) → walk-lts.Need-loop-i-init (walk-calls t) (walk-at t) walk.Post walk-Inv-loop walk-μ-loop
 walk-loop-holds t c =
-    let more = c.before.before.before.before.before.before.before.if2.false in
-    let long = c.before.before.before.before.before.before.before.before.before.before.before.before.before.before.before.before.before.before.before.before.before.before.before.requires.1.first more in
-    let got = c.before.before.before.before in
-    let same = got.paired.auto.1.1.1.1.1.1.0 in
-    ((refl, refl, refl, refl, refl, refl), begun _ c.before.before.before.before.before.before.before.before.before.if1.false more (omega arith) got.paired.ensures)
+    let more = c.if-left-eq0.false in
+    let long = c.requires.1.first more in
+    let got = c in
+    let same = got.paired-n.auto.out in
+    ((refl, refl, refl, refl, refl, refl), begun _ c.if-list-task.false more (omega arith) got.paired-n.ensures)
 
-walk-returns-3 : (t : ℕ) → walk-lts.Need-returns-3 (walk-calls t) (walk-at t) walk.Post walk-Inv-loop walk-μ-loop
-walk-returns-3 t c = stopped c.before.before.loop.invariant.1 c.if3.true
+walk-returns-3 : (t : ℕ) → walk-lts.Need-returns-then-t (walk-calls t) (walk-at t) walk.Post walk-Inv-loop walk-μ-loop
+walk-returns-3 t c = stopped c.loop-i.invariant.1 c.if-t.true
 
-walk-run-end-requires : (t : ℕ) → walk-lts.Need-run-end-requires (walk-calls t) (walk-at t) walk.Post walk-Inv-loop walk-μ-loop
+walk-run-end-requires : (t : ℕ) → walk-lts.Need-run_end-end-requires (walk-calls t) (walk-at t) walk.Post walk-Inv-loop walk-μ-loop
 walk-run-end-requires t c κs =
-    let g = c.before.before.before.before.loop.invariant.1 in
+    let g = c.loop-i.invariant.1 in
     let size = g.whole in
-    let test = c.before.before.before.loop-test.true in
+    let test = c.loop-i-test.true in
     (omega arith, ascends g)
 
-walk-part-of-requires : (t : ℕ) → walk-lts.Need-part-of-requires (walk-calls t) (walk-at t) walk.Post walk-Inv-loop walk-μ-loop
+walk-part-of-requires : (t : ℕ) → walk-lts.Need-part_of-k-requires (walk-calls t) (walk-at t) walk.Post walk-Inv-loop walk-μ-loop
 walk-part-of-requires t c κs =
-    let fit = c.before.before.before.before.before.before.before.before.before.before.before.before.before.before.before.before.before.before.before.before.before.before.before.before.before.before.before.before.before.before.before.before.requires.1 in
-    let long = fit.first c.before.before.before.before.before.before.before.before.before.before.before.before.before.before.before.before.if2.false in
-    let own = c.before.before.before.before.before.before.before.before.before.before.before.before.before.paired.auto.1.1.1.1.1.1.1.0 in
-    let same = c.before.before.before.before.before.before.before.before.loop.invariant.0.0 in
-    let g = c.before.before.before.before.before.before.before.before.loop.invariant.1 in
-    ((small g _ c.before.before.before.before.before.before.before.loop-test.true refl fit.held.few, (part-short g _ c.before.before.before.run-end.ensures.0.1, omega arith)), (fit.held, (fit.short, fit.listed)))
+    let fit = c.requires.1 in
+    let long = fit.first c.if-left-eq0.false in
+    let own = c.paired-n.auto.scratch in
+    let same = c.loop-i.invariant.0.0 in
+    let g = c.loop-i.invariant.1 in
+    ((small g _ c.loop-i-test.true refl fit.held.few, (part-short g _ c.run_end-end.ensures.0.1, omega arith)), (fit.held, (fit.short, fit.listed)))
 
-walk-add-walk : (t : ℕ) → walk-lts.Need-overflow-add-walk (walk-calls t) (walk-at t) walk.Post walk-Inv-loop walk-μ-loop
+walk-add-walk : (t : ℕ) → walk-lts.Need-overflow_add-at (walk-calls t) (walk-at t) walk.Post walk-Inv-loop walk-μ-loop
 walk-add-walk t c =
-    let level = c.before.before.before.before.before.before.before.before.before.before.before.before.before.before.before.before.before.before.before.before.before.before.before.before.before.before.before.before.before.before.before.before.before.before.before.before.before.requires.1.level in
+    let level = c.requires.1.level in
     search rules
 
-walk-slice-reshare-prefix-walk : (t : ℕ) → walk-lts.Need-slice-reshare-prefix-walk (walk-calls t) (walk-at t) walk.Post walk-Inv-loop walk-μ-loop
+walk-slice-reshare-prefix-walk : (t : ℕ) → walk-lts.Need-slice_bounds-walk-end (walk-calls t) (walk-at t) walk.Post walk-Inv-loop walk-μ-loop
 walk-slice-reshare-prefix-walk t c =
-    let fit = c.before.before.before.before.before.before.before.before.before.before.before.before.before.before.before.before.before.before.before.before.before.before.before.before.before.before.before.before.before.before.before.before.before.before.before.before.before.requires.1 in
-    let long = fit.first c.before.before.before.before.before.before.before.before.before.before.before.before.before.before.before.before.before.before.before.before.before.if2.false in
-    let own = c.before.before.before.before.before.before.before.before.before.before.before.before.before.before.before.before.before.before.paired.auto.1.1.1.1.1.1.1.0 in
-    let same = c.before.before.before.before.before.before.before.before.before.before.before.before.before.loop.invariant.0.0 in
-    let k = c.before.before.before.before.part_of.ensures.0 in
-    let out = c.before.before.before.before.part_of.auto.1.1.1.1.1.1.1.0 in
+    let fit = c.requires.1 in
+    let long = fit.first c.if-left-eq0.false in
+    let own = c.paired-n.auto.scratch in
+    let same = c.loop-i.invariant.0.0 in
+    let k = c.part_of-k.ensures.0 in
+    let out = c.part_of-k.auto.out in
     search rules
 
-walk-slice-aggregate-walk : (t : ℕ) → walk-lts.Need-slice-aggregate-walk (walk-calls t) (walk-at t) walk.Post walk-Inv-loop walk-μ-loop
+walk-slice-aggregate-walk : (t : ℕ) → walk-lts.Need-slice_bounds-walk-end-in-loop-i (walk-calls t) (walk-at t) walk.Post walk-Inv-loop walk-μ-loop
 walk-slice-aggregate-walk t c =
-    let fit = c.before.before.before.before.before.before.before.before.before.before.before.before.before.before.before.before.before.before.before.before.before.before.before.before.before.before.before.before.before.before.before.before.before.before.before.before.before.before.requires.1 in
-    let long = fit.first c.before.before.before.before.before.before.before.before.before.before.before.before.before.before.before.before.before.before.before.before.before.before.if2.false in
-    let own = c.before.before.before.before.before.before.before.before.before.before.before.before.before.before.before.before.before.before.before.paired.auto.1.1.1.1.1.1.1.0 in
-    let same = c.before.before.before.before.before.before.before.before.before.before.before.before.before.before.loop.invariant.0.0 in
-    let k = c.before.before.before.before.before.part_of.ensures.0 in
-    let out = c.before.before.before.before.before.part_of.auto.1.1.1.1.1.1.1.0 in
+    let fit = c.requires.1 in
+    let long = fit.first c.if-left-eq0.false in
+    let own = c.paired-n.auto.scratch in
+    let same = c.loop-i.invariant.0.0 in
+    let k = c.part_of-k.ensures.0 in
+    let out = c.part_of-k.auto.out in
     simp length-take (omega arith)
 
-walk-walk-requires : (t : ℕ) → walk-lts.Need-walk-requires (walk-calls t) (walk-at t) walk.Post walk-Inv-loop walk-μ-loop
+walk-walk-requires : (t : ℕ) → walk-lts.Need-walk-t-requires (walk-calls t) (walk-at t) walk.Post walk-Inv-loop walk-μ-loop
 walk-walk-requires t c κs =
-    let s = c.before.before.before.before.before.before.before.before.before.before.before.before.before.before.before.before.before.before.before.before.before.before.before.before.before.before.before.before.before.before.before.before.before.before.before.before.before.before.before.before.before.before.before in
-    let more = c.before.before.before.before.before.before.before.before.before.before.before.before.before.before.before.before.before.before.before.before.before.before.before.before.before.before.before.if2.false in
-    let inv = c.before.before.before.before.before.before.before.before.before.before.before.before.before.before.before.before.before.before.before.loop.invariant.0 in
-    let g = c.before.before.before.before.before.before.before.before.before.before.before.before.before.before.before.before.before.before.before.loop.invariant.1 in
-    let rest = c.before.before.before.before.before.before.rest_of.ensures in
-    let list = part-kept g _ c.before.before.before.before.before.before.before.before.before.before.before.before.before.before.before.before.before.before.loop-test.true refl _ c.before.before.before.before.before.before.before.before.before.before.before.before.before.before.run-end.ensures.1 c.before.before.before.before.before.before.before.before.before.before.before.before.before.before.run-end.ensures.0 c.before.before.before.before.before.before.before.before.before.before.part_of.ensures.1 in
+    let s = c in
+    let more = c.if-left-eq0.false in
+    let inv = c.loop-i.invariant.0 in
+    let g = c.loop-i.invariant.1 in
+    let rest = c.rest_of.ensures in
+    let list = part-kept g _ c.loop-i-test.true refl _ c.run_end-end.ensures.1 c.run_end-end.ensures.0 c.part_of-k.ensures.1 in
     let fall = labels-fall _ _ more rest in
-    (omega (arith, s.requires.0), fit-next _ _ s.requires.1 more c.before.before.before.before.before.before.before.with-id.ensures rest list inv.1 inv.2 inv.3)
+    (omega (arith, s.requires.0), fit-next _ _ s.requires.1 more c.with_id-next.ensures rest list inv.1 inv.2 inv.3)
 
-walk-loop-less : (t : ℕ) → walk-lts.Need-loop-smaller (walk-calls t) (walk-at t) walk.Post walk-Inv-loop walk-μ-loop
+walk-loop-less : (t : ℕ) → walk-lts.Need-loop-i-smaller (walk-calls t) (walk-at t) walk.Post walk-Inv-loop walk-μ-loop
 walk-loop-less t c =
-    let test = c.before.before.before.before.before.before.before.before.before.before.before.before.before.before.before.before.before.before.before.before.before.before.before.before.before.before.before.loop-test.true in
-    let on = c.before.before.before.before.before.before.before.before.before.before.before.before.before.before.before.before.before.before.before.before.before.before.before.run-end.ensures.0.0 in
+    let test = c.loop-i-test.true in
+    let on = c.run_end-end.ensures.0.0 in
     omega arith
 
-walk-loop-again : (t : ℕ) → walk-lts.Need-loop-preserved (walk-calls t) (walk-at t) walk.Post walk-Inv-loop walk-μ-loop
+walk-loop-again : (t : ℕ) → walk-lts.Need-loop-i-preserved (walk-calls t) (walk-at t) walk.Post walk-Inv-loop walk-μ-loop
 walk-loop-again t c =
-    let level = c.before.before.before.before.before.before.before.before.before.before.before.before.before.before.before.before.before.before.before.before.before.before.before.before.before.before.before.before.before.before.before.before.before.before.before.before.before.before.before.before.before.before.before.before.before.before.before.before.before.before.before.before.requires.1.level in
-    let more = c.before.before.before.before.before.before.before.before.before.before.before.before.before.before.before.before.before.before.before.before.before.before.before.before.before.before.before.before.before.before.before.before.before.before.before.before.if2.false in
-    let inv = c.before.before.before.before.before.before.before.before.before.before.before.before.before.before.before.before.before.before.before.before.before.before.before.before.before.before.before.before.loop.invariant.0 in
-    let g = c.before.before.before.before.before.before.before.before.before.before.before.before.before.before.before.before.before.before.before.before.before.before.before.before.before.before.before.before.loop.invariant.1 in
-    let test = c.before.before.before.before.before.before.before.before.before.before.before.before.before.before.before.before.before.before.before.before.before.before.before.before.before.before.before.loop-test.true in
-    let end = c.before.before.before.before.before.before.before.before.before.before.before.before.before.before.before.before.before.before.before.before.before.before.before.run-end.ensures in
-    let out = c.before.before.before.before.before.before.before.before.before.before.before.before.before.before.before.before.before.before.before in
-    let rest = c.before.before.before.before.before.before.before.before.before.before.before.before.before.before.before.rest_of.ensures in
+    let level = c.requires.1.level in
+    let more = c.if-left-eq0.false in
+    let inv = c.loop-i.invariant.0 in
+    let g = c.loop-i.invariant.1 in
+    let test = c.loop-i-test.true in
+    let end = c.run_end-end.ensures in
+    let out = c in
+    let rest = c.rest_of.ensures in
     let fall = labels-fall _ _ more rest in
-    let w = c.before.before.before.before.before.before.before.before in (
-      (out.part_of.auto.1.1.1.1.1.1.1.0 ∙ inv.0, w.walk.auto.1.1.1.1.1.1.1.1.1.1.1.0 ∙ inv.1, w.walk.auto.1.1.1.1.1.1.1.1.1.1.1.1.1.0 ∙ inv.2, w.walk.auto.1.1.1.1.1.1.1.1.1.1.1.1.1.1.1.1.0 ∙ inv.3, w.walk.auto.1.1.1.1.1.1.1.1.1.1.1.1.0 ∙ inv.4, w.walk.auto.1.1.1.1.1.1.1.1.1.1.1.1.1.1.0 ∙ inv.5),
-      taken g _ test refl _ end.1 (omega arith) c.before.before.before.before.before.before.before.before.before.before.before.before.before.before.before.before.with-id.ensures rest (part-kept g _ test refl _ end.1 end.0 out.part_of.ensures.1) w.walk.ensures,
+    let w = c in (
+      (out.part_of-k.auto.out ∙ inv.0, w.walk-t.auto.one ∙ inv.1, w.walk-t.auto.first ∙ inv.2, w.walk-t.auto.room ∙ inv.3, w.walk-t.auto.two ∙ inv.4, w.walk-t.auto.second ∙ inv.5),
+      taken g _ test refl _ end.1 (omega arith) c.with_id-next.ensures rest (part-kept g _ test refl _ end.1 end.0 out.part_of-k.ensures.1) w.walk-t.ensures,
     )
 
-walk-returns-4 : (t : ℕ) → walk-lts.Need-returns-4 (walk-calls t) (walk-at t) walk.Post walk-Inv-loop walk-μ-loop
-walk-returns-4 t c = ended c.before.loop.invariant.1 c.loop-test.false
+walk-returns-4 : (t : ℕ) → walk-lts.Need-returns (walk-calls t) (walk-at t) walk.Post walk-Inv-loop walk-μ-loop
+walk-returns-4 t c = ended c.loop-i.invariant.1 c.loop-i-test.false
 
 pub +walk_spec : {M : Type 1} → statement M
 +walk_spec = close μ-walk λ t. walk-lts.spec (walk-calls t)

@@ -20,14 +20,14 @@ module _ (key : Key) (at u : ℕ) where
   unfolding with_id
   last k h = rw (ne_eqb at 0 k, ne_eqb at 1 h)
 
-returns : tie.Need-returns
-returns c = zeroth _ _ _ c.if1.true
+returns : tie.Need-returns-then-at-eq0
+returns c = zeroth _ _ _ c.if-at-eq0.true
 
-returns-2 : tie.Need-returns-2
-returns-2 c = next _ _ _ c.before.if1.false c.if2.true
+returns-2 : tie.Need-returns-then-at-eq1
+returns-2 c = next _ _ _ c.if-at-eq0.false c.if-at-eq1.true
 
-returns-3 : tie.Need-returns-3
-returns-3 c = last _ _ _ c.before.if1.false c.if2.false
+returns-3 : tie.Need-returns
+returns-3 c = last _ _ _ c.if-at-eq0.false c.if-at-eq1.false
 
 pub with_id_spec : {M : Type 1} → statement M
 with_id_spec = tie.close (tie.spec returns returns-2 returns-3)

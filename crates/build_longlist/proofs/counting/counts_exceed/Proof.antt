@@ -8,43 +8,43 @@ use Rattle.build_longlist.proofs.Counts.{Counting, count-start, count-inside, co
 use Rattle.build_longlist.proofs.counting.counts_exceed.Statement.{statement}
 use Rattle.build_longlist.proofs.counting.counts_exceed.Tie as tie
 
-abbrev invariant-loop : tie.invariant-loop
+abbrev invariant-loop : tie.invariant-loop-i
 invariant-loop nodes joined s most list counts₀ i₀ counts i = (length counts ≡ length counts₀) × Counting nodes joined s most list counts i
 
-abbrev decreases-loop : tie.decreases-loop
+abbrev decreases-loop : tie.decreases-loop-i
 decreases-loop nodes joined s most list counts₀ i₀ counts i = length list - i
 
 clear-requires : tie.Need-clear-requires invariant-loop decreases-loop
-clear-requires c κs = c.before.before.before.before.before.requires.0.0
+clear-requires c κs = c.requires.0.0
 
-loop-holds : tie.Need-loop-init invariant-loop decreases-loop
-loop-holds c = (refl, count-start c.before.before.clear.ensures c.before.before.before.before.before.before.before.before.requires.0.1)
+loop-holds : tie.Need-loop-i-init invariant-loop decreases-loop
+loop-holds c = (refl, count-start c.clear.ensures c.requires.0.1)
 
-words-of-requires : tie.Need-words-of-requires invariant-loop decreases-loop
-words-of-requires c κs = (count-inside c.before.before.loop.invariant.1 c.before.loop-test.true c.before.before.before.before.before.before.before.before.before.before.before.requires.1.0 c.before.before.before.before.before.before.before.before.before.before.before.requires.1.1.1, c.before.before.before.before.before.before.before.before.before.before.before.requires.1.0.strict)
+words-of-requires : tie.Need-words_of-near-requires invariant-loop decreases-loop
+words-of-requires c κs = (count-inside c.loop-i.invariant.1 c.loop-i-test.true c.requires.1.0 c.requires.1.1.1, c.requires.1.0.strict)
 
-count-near-requires : tie.Need-count-near-requires invariant-loop decreases-loop
+count-near-requires : tie.Need-count_near-requires invariant-loop decreases-loop
 count-near-requires c κs =
-    let same = c.before.before.before.before.loop.invariant.0 in
-    let kept = c.before.before.before.before.before.before.before.clear.auto.0 in
-    let long = c.before.before.before.before.before.before.before.before.before.before.before.before.before.requires.0.0 in
-    (omega arith, (count-spare c.before.before.before.before.loop.invariant.1 c.before.before.before.loop-test.true c.before.before.before.before.before.before.before.before.before.before.before.before.before.requires.1.0 c.before.before.before.before.before.before.before.before.before.before.before.before.before.requires.1.1.1 c.before.words_of.ensures c.before.before.before.before.before.before.before.before.before.before.before.before.before.requires.1.1.0, c.before.before.before.before.loop.invariant.1.low))
+    let same = c.loop-i.invariant.0 in
+    let kept = c.clear.auto.counts in
+    let long = c.requires.0.0 in
+    (omega arith, (count-spare c.loop-i.invariant.1 c.loop-i-test.true c.requires.1.0 c.requires.1.1.1 c.words_of-near.ensures c.requires.1.1.0, c.loop-i.invariant.1.low))
 
-same-length : tie.Need-same-length invariant-loop decreases-loop
-same-length c = c.before.before.before.count-near.auto.1.1.1.1.0 ∙ c.before.before.before.before.before.before.before.before.loop.invariant.0 ∙ c.before.before.before.before.before.before.before.before.before.before.before.clear.auto.0
+same-length : tie.Need-shape_of-counts-then-count_near invariant-loop decreases-loop
+same-length c = c.count_near.auto.counts ∙ c.loop-i.invariant.0 ∙ c.clear.auto.counts
 
-returns : tie.Need-returns invariant-loop decreases-loop
-returns c = count-stop c.before.before.before.before.before.before.before.before.loop.invariant.1 c.before.before.before.before.before.before.before.loop-test.true c.before.before.before.before.before.before.before.before.before.before.before.before.before.before.before.before.before.requires.1.0 c.before.before.before.before.before.before.before.before.before.before.before.before.before.before.before.before.before.requires.1.1.1 c.before.before.before.before.before.words_of.ensures (c.before.before.before.count-near.ensures.0 c.if1.true)
+returns : tie.Need-returns-then-count_near invariant-loop decreases-loop
+returns c = count-stop c.loop-i.invariant.1 c.loop-i-test.true c.requires.1.0 c.requires.1.1.1 c.words_of-near.ensures (c.count_near.ensures.0 c.if-count_near.true)
 
-loop-again : tie.Need-loop-preserved invariant-loop decreases-loop
+loop-again : tie.Need-loop-i-preserved invariant-loop decreases-loop
 loop-again c =
-    (c.before.before.before.count-near.auto.1.1.1.1.0 ∙ c.before.before.before.before.before.before.before.before.loop.invariant.0, count-next c.before.before.before.before.before.before.before.before.loop.invariant.1 c.before.before.before.before.before.before.before.loop-test.true c.before.before.before.before.before.before.before.before.before.before.before.before.before.before.before.before.before.requires.1.0 c.before.before.before.before.before.before.before.before.before.before.before.before.before.before.before.before.before.requires.1.1.1 c.before.before.before.before.before.words_of.ensures (c.before.before.before.count-near.ensures.1 c.if1.false))
+    (c.count_near.auto.counts ∙ c.loop-i.invariant.0, count-next c.loop-i.invariant.1 c.loop-i-test.true c.requires.1.0 c.requires.1.1.1 c.words_of-near.ensures (c.count_near.ensures.1 c.if-count_near.false))
 
-same-length-2 : tie.Need-same-length-2 invariant-loop decreases-loop
-same-length-2 c = c.before.loop.invariant.0 ∙ c.before.before.before.before.clear.auto.0
+same-length-2 : tie.Need-shape_of-counts invariant-loop decreases-loop
+same-length-2 c = c.loop-i.invariant.0 ∙ c.clear.auto.counts
 
-returns-2 : tie.Need-returns-2 invariant-loop decreases-loop
-returns-2 c = count-done c.before.loop.invariant.1 c.before.before.before.before.before.before.before.before.before.before.requires.0.1 c.loop-test.false
+returns-2 : tie.Need-returns invariant-loop decreases-loop
+returns-2 c = count-done c.loop-i.invariant.1 c.requires.0.1 c.loop-i-test.false
 
 pub counts_exceed_spec : {M : Type 1} → statement M
 counts_exceed_spec =

@@ -1,6 +1,5 @@
 -- `build_longlist::exceed::exceeds_from` meets its contract. Exceeding.antt has the loop's state and its laws. Assumes nothing.
 use borrow.Author.Rules.{rules}
-use borrow.Author.Tests.{not-false}
 use native.Mathlib.Omega.{arith}
 use mathlib.Core.Path.{◌≡◌, refl, ◌∙◌}
 use lib.ListN.{length, length-take}
@@ -35,170 +34,170 @@ exceeds-from-below t = and 9 exceeds-from-kinds.ps (falls 9 exceeds-from-kinds.p
 abbrev exceeds-from-calls : ℕ → exceeds-from-lts.Claims
 exceeds-from-calls t = (counts-exceed-reads.Asked, counts-exceed-reads.Learnt, sifted-reads.Asked, sifted-reads.Learnt, goes-with-reads.Asked, goes-with-reads.Learnt, shared-reads.Asked, shared-reads.Learnt, rest-of-reads.Asked, rest-of-reads.Learnt, exceeds-from-below t, exceeds-from.Post)
 
-abbrev exceeds-from-Inv-loop : exceeds-from-lts.invariant-loop
+abbrev exceeds-from-Inv-loop : exceeds-from-lts.invariant-loop-i
 exceeds-from-Inv-loop nodes joined left most list one₀ two₀ three₀ first second₀ third₀ n none₀ empty₀ w₀ i₀ one two three second third none empty w i =
     ((length one ≡ length one₀) × (length two ≡ length two₀) × (length three ≡ length three₀) × (length second ≡ length second₀) × (length third ≡ length third₀)
     × (length none ≡ 1) × (length empty ≡ 1))
     × Trying nodes joined left most list first n i w (long_from (word_in joined) (labelled_in nodes) most (labels_in left) list)
 
-abbrev exceeds-from-μ-loop : exceeds-from-lts.decreases-loop
+abbrev exceeds-from-μ-loop : exceeds-from-lts.decreases-loop-i
 exceeds-from-μ-loop nodes joined left most list one₀ two₀ three₀ first second₀ third₀ n none₀ empty₀ w₀ i₀ one two three second third none empty w i = n - i
 
-exceeds-from-returns : (t : ℕ) → exceeds-from-lts.Need-returns (exceeds-from-calls t) (exceeds-from-at t) exceeds-from.Post exceeds-from-Inv-loop exceeds-from-μ-loop
-exceeds-from-returns t c = try-short _ _ _ _ _ c.if1.true
+exceeds-from-returns : (t : ℕ) → exceeds-from-lts.Need-returns-then-list-most (exceeds-from-calls t) (exceeds-from-at t) exceeds-from.Post exceeds-from-Inv-loop exceeds-from-μ-loop
+exceeds-from-returns t c = try-short _ _ _ _ _ c.if-list-most.true
 
-exceeds-from-returns-2 : (t : ℕ) → exceeds-from-lts.Need-returns-2 (exceeds-from-calls t) (exceeds-from-at t) exceeds-from.Post exceeds-from-Inv-loop exceeds-from-μ-loop
-exceeds-from-returns-2 t c = try-whole _ _ _ _ _ c.before.before.if1.false c.if2.true
+exceeds-from-returns-2 : (t : ℕ) → exceeds-from-lts.Need-returns-then-left-eq0 (exceeds-from-calls t) (exceeds-from-at t) exceeds-from.Post exceeds-from-Inv-loop exceeds-from-μ-loop
+exceeds-from-returns-2 t c = try-whole _ _ _ _ _ c.if-list-most.false c.if-left-eq0.true
 
-exceeds-from-counts-exceed-requires : (t : ℕ) → exceeds-from-lts.Need-counts-exceed-requires (exceeds-from-calls t) (exceeds-from-at t) exceeds-from.Post exceeds-from-Inv-loop exceeds-from-μ-loop
+exceeds-from-counts-exceed-requires : (t : ℕ) → exceeds-from-lts.Need-counts_exceed-requires (exceeds-from-calls t) (exceeds-from-at t) exceeds-from.Post exceeds-from-Inv-loop exceeds-from-μ-loop
 exceeds-from-counts-exceed-requires t c κs =
-    let s = c.before.before.before.before.before.before.before.before.before.before.before.before.before.before.before in
-    (((s.requires.1.first c.before.before.before.if2.false).0, s.requires.1.few), (s.requires.1.both, (s.requires.1.short, s.requires.1.inside)))
+    let s = c in
+    (((s.requires.1.first c.if-left-eq0.false).0, s.requires.1.few), (s.requires.1.both, (s.requires.1.short, s.requires.1.inside)))
 
-exceeds-from-same-length : (t : ℕ) → exceeds-from-lts.Need-same-length (exceeds-from-calls t) (exceeds-from-at t) exceeds-from.Post exceeds-from-Inv-loop exceeds-from-μ-loop
-exceeds-from-same-length t c = c.before.before.counts-exceed.auto.1.1.1.1.1.0
+exceeds-from-same-length : (t : ℕ) → exceeds-from-lts.Need-shape_of-one-then-left-list (exceeds-from-calls t) (exceeds-from-at t) exceeds-from.Post exceeds-from-Inv-loop exceeds-from-μ-loop
+exceeds-from-same-length t c = c.counts_exceed.auto.counts
 
-exceeds-from-returns-3 : (t : ℕ) → exceeds-from-lts.Need-returns-3 (exceeds-from-calls t) (exceeds-from-at t) exceeds-from.Post exceeds-from-Inv-loop exceeds-from-μ-loop
-exceeds-from-returns-3 t c = try-counted _ _ _ _ _ _ c.before.before.before.before.before.before.before.before.if1.false c.before.before.before.before.before.before.if2.false c.before.before.before.before.if3.true c.before.before.counts-exceed.ensures
+exceeds-from-returns-3 : (t : ℕ) → exceeds-from-lts.Need-returns-then-left-list (exceeds-from-calls t) (exceeds-from-at t) exceeds-from.Post exceeds-from-Inv-loop exceeds-from-μ-loop
+exceeds-from-returns-3 t c = try-counted _ _ _ _ _ _ c.if-list-most.false c.if-left-eq0.false c.if-left-list.true c.counts_exceed.ensures
 
-exceeds-from-sifted-requires : (t : ℕ) → exceeds-from-lts.Need-sifted-requires (exceeds-from-calls t) (exceeds-from-at t) exceeds-from.Post exceeds-from-Inv-loop exceeds-from-μ-loop
+exceeds-from-sifted-requires : (t : ℕ) → exceeds-from-lts.Need-sifted-n-requires (exceeds-from-calls t) (exceeds-from-at t) exceeds-from.Post exceeds-from-Inv-loop exceeds-from-μ-loop
 exceeds-from-sifted-requires t c κs =
-    let s = c.before.before.before.before.before.before.before.before.before.before.before.before.before.before.before.before in
-    let rooms = s.requires.1.first c.before.before.before.before.if2.false in
+    let s = c in
+    let rooms = s.requires.1.first c.if-left-eq0.false in
     ((rooms.1, rooms.0), (s.requires.1.few, (s.requires.1.both, (s.requires.1.short, s.requires.1.ascends))))
 
-exceeds-from-loop-holds : (t : ℕ) → exceeds-from-lts.Need-loop-init (exceeds-from-calls t) (exceeds-from-at t) exceeds-from.Post exceeds-from-Inv-loop exceeds-from-μ-loop
+exceeds-from-loop-holds : (t : ℕ) → exceeds-from-lts.Need-loop-i-init (exceeds-from-calls t) (exceeds-from-at t) exceeds-from.Post exceeds-from-Inv-loop exceeds-from-μ-loop
 exceeds-from-loop-holds t c =
-    let s = c.before.before.before.before.before.before.before.before.before.before.before.before.before.before.before.before.before.before.before.before.before in
-    let left = c.before.before.before.before.before.before.before.before.before.if2.false in
-    let sifted = c.before.before.before.before.sifted in
+    let s = c in
+    let left = c.if-left-eq0.false in
+    let sifted = c.sifted-n in
     let room = (s.requires.1.first left).1 in
     let few = sifted.ensures.0 in
-    let kept = sifted.auto.1.1.1.1.1.0 in
-    ((refl, refl, refl, refl, refl, refl, refl), try-start _ c.before.before.before.before.before.before.before.before.before.before.before.if1.false left (omega arith) sifted.ensures.1)
+    let kept = sifted.auto.out in
+    ((refl, refl, refl, refl, refl, refl, refl), try-start _ c.if-list-most.false left (omega arith) sifted.ensures.1)
 
-exceeds-from-mul-u : (t : ℕ) → exceeds-from-lts.Need-overflow-mul-u (exceeds-from-calls t) (exceeds-from-at t) exceeds-from.Post exceeds-from-Inv-loop exceeds-from-μ-loop
+exceeds-from-mul-u : (t : ℕ) → exceeds-from-lts.Need-offset_bounds-first-i (exceeds-from-calls t) (exceeds-from-at t) exceeds-from.Post exceeds-from-Inv-loop exceeds-from-μ-loop
 exceeds-from-mul-u t c = search rules
 
-exceeds-from-slice-read-u : (t : ℕ) → exceeds-from-lts.Need-slice-read-u (exceeds-from-calls t) (exceeds-from-at t) exceeds-from.Post exceeds-from-Inv-loop exceeds-from-μ-loop
+exceeds-from-slice-read-u : (t : ℕ) → exceeds-from-lts.Need-bounds-first-i (exceeds-from-calls t) (exceeds-from-at t) exceeds-from.Post exceeds-from-Inv-loop exceeds-from-μ-loop
 exceeds-from-slice-read-u t c = search rules
 
-exceeds-from-add-i : (t : ℕ) → exceeds-from-lts.Need-overflow-add-i (exceeds-from-calls t) (exceeds-from-at t) exceeds-from.Post exceeds-from-Inv-loop exceeds-from-μ-loop
+exceeds-from-add-i : (t : ℕ) → exceeds-from-lts.Need-overflow_add-i (exceeds-from-calls t) (exceeds-from-at t) exceeds-from.Post exceeds-from-Inv-loop exceeds-from-μ-loop
 exceeds-from-add-i t c = search rules
 
-exceeds-from-goes-with-requires : (t : ℕ) → exceeds-from-lts.Need-goes-with-requires (exceeds-from-calls t) (exceeds-from-at t) exceeds-from.Post exceeds-from-Inv-loop exceeds-from-μ-loop
-exceeds-from-goes-with-requires t c κs = let s = c.before.before.before.before.before.before.before.before.before.before.before.before.before.before.before.before.before.before.before.before.before.before.before.before in (s.requires.1.both.strict, s.requires.1.ascends)
+exceeds-from-goes-with-requires : (t : ℕ) → exceeds-from-lts.Need-goes_with-requires (exceeds-from-calls t) (exceeds-from-at t) exceeds-from.Post exceeds-from-Inv-loop exceeds-from-μ-loop
+exceeds-from-goes-with-requires t c κs = let s = c in (s.requires.1.both.strict, s.requires.1.ascends)
 
-exceeds-from-shared-requires : (t : ℕ) → exceeds-from-lts.Need-shared-requires (exceeds-from-calls t) (exceeds-from-at t) exceeds-from.Post exceeds-from-Inv-loop exceeds-from-μ-loop
+exceeds-from-shared-requires : (t : ℕ) → exceeds-from-lts.Need-shared-k-requires (exceeds-from-calls t) (exceeds-from-at t) exceeds-from.Post exceeds-from-Inv-loop exceeds-from-μ-loop
 exceeds-from-shared-requires t c κs =
-    let s = c.before.before.before.before.before.before.before.before.before.before.before.before.before.before.before.before.before.before.before.before.before.before.before.before.before.before.before in
-    let left = c.before.before.before.before.before.before.before.before.before.before.before.before.before.before.before.if2.false in
+    let s = c in
+    let left = c.if-left-eq0.false in
     let rooms = s.requires.1.first left in
-    let same = c.before.before.before.before.before.loop.invariant.0.0 in
-    let kept = c.before.before.before.before.before.before.before.before.before.before.sifted.auto.1.1.1.1.1.1.0 in
+    let same = c.loop-i.invariant.0.0 in
+    let kept = c.sifted-n.auto.scratch in
     let short = s.requires.1.short in
     (omega arith, (s.requires.1.both.strict, s.requires.1.ascends))
 
-exceeds-from-rest-of-requires : (t : ℕ) → exceeds-from-lts.Need-rest-of-requires (exceeds-from-calls t) (exceeds-from-at t) exceeds-from.Post exceeds-from-Inv-loop exceeds-from-μ-loop
+exceeds-from-rest-of-requires : (t : ℕ) → exceeds-from-lts.Need-rest_of-requires (exceeds-from-calls t) (exceeds-from-at t) exceeds-from.Post exceeds-from-Inv-loop exceeds-from-μ-loop
 exceeds-from-rest-of-requires t c κs = search rules
 
-exceeds-from-slice-reshare-prefix-exceeds-from : (t : ℕ) → exceeds-from-lts.Need-slice-reshare-prefix-exceeds-from (exceeds-from-calls t) (exceeds-from-at t) exceeds-from.Post exceeds-from-Inv-loop exceeds-from-μ-loop
+exceeds-from-slice-reshare-prefix-exceeds-from : (t : ℕ) → exceeds-from-lts.Need-slice_bounds-exceeds_from-end (exceeds-from-calls t) (exceeds-from-at t) exceeds-from.Post exceeds-from-Inv-loop exceeds-from-μ-loop
 exceeds-from-slice-reshare-prefix-exceeds-from t c =
-    let s = c.before.before.before.before.before.before.before.before.before.before.before.before.before.before.before.before.before.before.before.before.before.before.before.before.before.before.before.before.before.before.before in
-    let left = c.before.before.before.before.before.before.before.before.before.before.before.before.before.before.before.before.before.before.before.if2.false in
+    let s = c in
+    let left = c.if-left-eq0.false in
     let rooms = s.requires.1.first left in
-    let same = c.before.before.before.before.before.before.before.before.before.loop.invariant.0.0 in
-    let kept = c.before.before.before.before.before.before.before.before.before.before.before.before.before.before.sifted.auto.1.1.1.1.1.1.0 in
+    let same = c.loop-i.invariant.0.0 in
+    let kept = c.sifted-n.auto.scratch in
     let short = s.requires.1.short in
-    let few = c.before.before.before.shared.ensures.0 in
+    let few = c.shared-k.ensures.0 in
     search rules
 
-exceeds-from-slice-aggregate-exceeds-from : (t : ℕ) → exceeds-from-lts.Need-slice-aggregate-exceeds-from (exceeds-from-calls t) (exceeds-from-at t) exceeds-from.Post exceeds-from-Inv-loop exceeds-from-μ-loop
+exceeds-from-slice-aggregate-exceeds-from : (t : ℕ) → exceeds-from-lts.Need-slice_bounds-exceeds_from-end-then-not-goes_with (exceeds-from-calls t) (exceeds-from-at t) exceeds-from.Post exceeds-from-Inv-loop exceeds-from-μ-loop
 exceeds-from-slice-aggregate-exceeds-from t c =
-    let s = c.before.before.before.before.before.before.before.before.before.before.before.before.before.before.before.before.before.before.before.before.before.before.before.before.before.before.before.before.before.before.before.before in
-    let left = c.before.before.before.before.before.before.before.before.before.before.before.before.before.before.before.before.before.before.before.before.if2.false in
+    let s = c in
+    let left = c.if-left-eq0.false in
     let rooms = s.requires.1.first left in
-    let same = c.before.before.before.before.before.before.before.before.before.before.loop.invariant.0.0 in
-    let kept = c.before.before.before.before.before.before.before.before.before.before.before.before.before.before.before.sifted.auto.1.1.1.1.1.1.0 in
+    let same = c.loop-i.invariant.0.0 in
+    let kept = c.sifted-n.auto.scratch in
     let short = s.requires.1.short in
-    let few = c.before.before.before.before.shared.ensures.0 in
-    let out = c.before.before.before.before.shared.auto.1.1.1.0 in
+    let few = c.shared-k.ensures.0 in
+    let out = c.shared-k.auto.out in
     simp length-take (omega arith)
 
-exceeds-from-slice-aggregate-exceeds-from-2 : (t : ℕ) → exceeds-from-lts.Need-slice-aggregate-exceeds-from-2 (exceeds-from-calls t) (exceeds-from-at t) exceeds-from.Post exceeds-from-Inv-loop exceeds-from-μ-loop
+exceeds-from-slice-aggregate-exceeds-from-2 : (t : ℕ) → exceeds-from-lts.Need-slice_bounds-exceeds_from-end-then-not-goes_with-2 (exceeds-from-calls t) (exceeds-from-at t) exceeds-from.Post exceeds-from-Inv-loop exceeds-from-μ-loop
 exceeds-from-slice-aggregate-exceeds-from-2 t c = search rules
 
-exceeds-from-slice-aggregate-exceeds-from-3 : (t : ℕ) → exceeds-from-lts.Need-slice-aggregate-exceeds-from-3 (exceeds-from-calls t) (exceeds-from-at t) exceeds-from.Post exceeds-from-Inv-loop exceeds-from-μ-loop
+exceeds-from-slice-aggregate-exceeds-from-3 : (t : ℕ) → exceeds-from-lts.Need-slice_bounds-exceeds_from-end-then-not-goes_with-3 (exceeds-from-calls t) (exceeds-from-at t) exceeds-from.Post exceeds-from-Inv-loop exceeds-from-μ-loop
 exceeds-from-slice-aggregate-exceeds-from-3 t c = search rules
 
-exceeds-from-exceeds-from-requires : (t : ℕ) → exceeds-from-lts.Need-exceeds-from-requires (exceeds-from-calls t) (exceeds-from-at t) exceeds-from.Post exceeds-from-Inv-loop exceeds-from-μ-loop
+exceeds-from-exceeds-from-requires : (t : ℕ) → exceeds-from-lts.Need-exceeds_from-requires (exceeds-from-calls t) (exceeds-from-at t) exceeds-from.Post exceeds-from-Inv-loop exceeds-from-μ-loop
 exceeds-from-exceeds-from-requires t c κs =
-    let s = c.before.before.before.before.before.before.before.before.before.before.before.before.before.before.before.before.before.before.before.before.before.before.before.before.before.before.before.before.before.before.before.before.before.before.before.before.before.before in
-    let left = c.before.before.before.before.before.before.before.before.before.before.before.before.before.before.before.before.before.before.before.before.before.before.before.before.before.before.if2.false in
-    let inv = c.before.before.before.before.before.before.before.before.before.before.before.before.before.before.before.before.loop.invariant.0 in
-    let f = rooms-next _ s.requires.1 c.before.before.before.before.before.before.before.rest_of.ensures c.before.before.before.before.before.before.before.before.before.before.shared.ensures.1 inv.1 inv.2 inv.3 inv.4 in
-    let fall = labels-fall _ _ left c.before.before.before.before.before.before.before.rest_of.ensures in
+    let s = c in
+    let left = c.if-left-eq0.false in
+    let inv = c.loop-i.invariant.0 in
+    let f = rooms-next _ s.requires.1 c.rest_of.ensures c.shared-k.ensures.1 inv.1 inv.2 inv.3 inv.4 in
+    let fall = labels-fall _ _ left c.rest_of.ensures in
     (omega (arith, s.requires.0), f)
 
-exceeds-from-same-length-2 : (t : ℕ) → exceeds-from-lts.Need-same-length-2 (exceeds-from-calls t) (exceeds-from-at t) exceeds-from.Post exceeds-from-Inv-loop exceeds-from-μ-loop
-exceeds-from-same-length-2 t c = c.before.before.before.before.before.before.before.before.before.before.before.before.before.before.before.before.before.before.before.before.before.before.shared.auto.1.1.1.0 ∙ c.before.before.before.before.before.before.before.before.before.before.before.before.before.before.before.before.before.before.before.before.before.before.before.before.before.before.before.before.loop.invariant.0.0 ∙ c.before.before.before.before.before.before.before.before.before.before.before.before.before.before.before.before.before.before.before.before.before.before.before.before.before.before.before.before.before.before.before.before.before.sifted.auto.1.1.1.1.1.1.0
+exceeds-from-same-length-2 : (t : ℕ) → exceeds-from-lts.Need-shape_of-one-then-exceeds_from (exceeds-from-calls t) (exceeds-from-at t) exceeds-from.Post exceeds-from-Inv-loop exceeds-from-μ-loop
+exceeds-from-same-length-2 t c = c.shared-k.auto.out ∙ c.loop-i.invariant.0.0 ∙ c.sifted-n.auto.scratch
 
-exceeds-from-same-length-3 : (t : ℕ) → exceeds-from-lts.Need-same-length-3 (exceeds-from-calls t) (exceeds-from-at t) exceeds-from.Post exceeds-from-Inv-loop exceeds-from-μ-loop
-exceeds-from-same-length-3 t c = c.before.before.before.before.before.before.before.before.before.before.before.exceeds-from.auto.1.1.1.1.1.0 ∙ c.before.before.before.before.before.before.before.before.before.before.before.before.before.before.before.before.before.before.before.before.before.before.before.before.before.before.before.before.loop.invariant.0.1
+exceeds-from-same-length-3 : (t : ℕ) → exceeds-from-lts.Need-shape_of-two-then-exceeds_from (exceeds-from-calls t) (exceeds-from-at t) exceeds-from.Post exceeds-from-Inv-loop exceeds-from-μ-loop
+exceeds-from-same-length-3 t c = c.exceeds_from.auto.one ∙ c.loop-i.invariant.0.1
 
-exceeds-from-same-length-4 : (t : ℕ) → exceeds-from-lts.Need-same-length-4 (exceeds-from-calls t) (exceeds-from-at t) exceeds-from.Post exceeds-from-Inv-loop exceeds-from-μ-loop
-exceeds-from-same-length-4 t c = c.before.before.before.before.before.before.before.before.before.before.before.exceeds-from.auto.1.1.1.1.1.1.0 ∙ c.before.before.before.before.before.before.before.before.before.before.before.before.before.before.before.before.before.before.before.before.before.before.before.before.before.before.before.before.loop.invariant.0.2
+exceeds-from-same-length-4 : (t : ℕ) → exceeds-from-lts.Need-shape_of-three-then-exceeds_from (exceeds-from-calls t) (exceeds-from-at t) exceeds-from.Post exceeds-from-Inv-loop exceeds-from-μ-loop
+exceeds-from-same-length-4 t c = c.exceeds_from.auto.two ∙ c.loop-i.invariant.0.2
 
-exceeds-from-same-length-5 : (t : ℕ) → exceeds-from-lts.Need-same-length-5 (exceeds-from-calls t) (exceeds-from-at t) exceeds-from.Post exceeds-from-Inv-loop exceeds-from-μ-loop
-exceeds-from-same-length-5 t c = c.before.before.before.before.before.before.before.before.before.before.before.before.before.before.before.before.before.before.before.before.before.before.before.before.before.before.before.before.before.before.before.before.before.sifted.auto.1.1.1.1.1.0
+exceeds-from-same-length-5 : (t : ℕ) → exceeds-from-lts.Need-shape_of-first-then-exceeds_from (exceeds-from-calls t) (exceeds-from-at t) exceeds-from.Post exceeds-from-Inv-loop exceeds-from-μ-loop
+exceeds-from-same-length-5 t c = c.sifted-n.auto.out
 
-exceeds-from-same-length-6 : (t : ℕ) → exceeds-from-lts.Need-same-length-6 (exceeds-from-calls t) (exceeds-from-at t) exceeds-from.Post exceeds-from-Inv-loop exceeds-from-μ-loop
-exceeds-from-same-length-6 t c = c.before.before.before.before.before.before.before.before.before.before.before.exceeds-from.auto.1.1.1.1.1.1.1.1.0 ∙ c.before.before.before.before.before.before.before.before.before.before.before.before.before.before.before.before.before.before.before.before.before.before.before.before.before.before.before.before.loop.invariant.0.3
+exceeds-from-same-length-6 : (t : ℕ) → exceeds-from-lts.Need-shape_of-second-then-exceeds_from (exceeds-from-calls t) (exceeds-from-at t) exceeds-from.Post exceeds-from-Inv-loop exceeds-from-μ-loop
+exceeds-from-same-length-6 t c = c.exceeds_from.auto.first ∙ c.loop-i.invariant.0.3
 
-exceeds-from-same-length-7 : (t : ℕ) → exceeds-from-lts.Need-same-length-7 (exceeds-from-calls t) (exceeds-from-at t) exceeds-from.Post exceeds-from-Inv-loop exceeds-from-μ-loop
-exceeds-from-same-length-7 t c = c.before.before.before.before.before.before.before.before.before.before.before.exceeds-from.auto.1.1.1.1.1.1.1.1.1.0 ∙ c.before.before.before.before.before.before.before.before.before.before.before.before.before.before.before.before.before.before.before.before.before.before.before.before.before.before.before.before.loop.invariant.0.4
+exceeds-from-same-length-7 : (t : ℕ) → exceeds-from-lts.Need-shape_of-third-then-exceeds_from (exceeds-from-calls t) (exceeds-from-at t) exceeds-from.Post exceeds-from-Inv-loop exceeds-from-μ-loop
+exceeds-from-same-length-7 t c = c.exceeds_from.auto.second ∙ c.loop-i.invariant.0.4
 
-exceeds-from-returns-4 : (t : ℕ) → exceeds-from-lts.Need-returns-4 (exceeds-from-calls t) (exceeds-from-at t) exceeds-from.Post exceeds-from-Inv-loop exceeds-from-μ-loop
-exceeds-from-returns-4 t c = try-stop c.before.before.before.before.before.before.before.before.before.before.before.before.before.before.before.before.before.before.before.before.before.before.before.before.before.before.before.before.loop.invariant.1 _ c.before.before.before.before.before.before.before.before.before.before.before.before.before.before.before.before.before.before.before.before.before.before.before.before.before.before.before.loop-test.true refl c.before.before.before.before.before.before.before.before.before.before.before.before.before.before.before.before.before.before.before.rest_of.ensures c.before.before.before.before.before.before.before.before.before.before.before.before.before.before.before.before.before.before.before.before.before.before.shared.ensures.1 c.before.before.before.before.before.before.before.before.before.before.before.exceeds-from.ensures c.if5.true
+exceeds-from-returns-4 : (t : ℕ) → exceeds-from-lts.Need-returns-then-exceeds_from (exceeds-from-calls t) (exceeds-from-at t) exceeds-from.Post exceeds-from-Inv-loop exceeds-from-μ-loop
+exceeds-from-returns-4 t c = try-stop c.loop-i.invariant.1 _ c.loop-i-test.true refl c.rest_of.ensures c.shared-k.ensures.1 c.exceeds_from.ensures c.if-exceeds_from.true
 
-exceeds-from-loop-less : (t : ℕ) → exceeds-from-lts.Need-loop-smaller (exceeds-from-calls t) (exceeds-from-at t) exceeds-from.Post exceeds-from-Inv-loop exceeds-from-μ-loop
-exceeds-from-loop-less t c = let test = c.before.before.before.before.before.before.before.before.before.before.before.before.before.before.before.before.before.before.before.before.before.before.before.before.before.before.before.loop-test.true in omega arith
+exceeds-from-loop-less : (t : ℕ) → exceeds-from-lts.Need-loop-i-smaller-then-not-goes_with (exceeds-from-calls t) (exceeds-from-at t) exceeds-from.Post exceeds-from-Inv-loop exceeds-from-μ-loop
+exceeds-from-loop-less t c = let test = c.loop-i-test.true in omega arith
 
-exceeds-from-loop-again : (t : ℕ) → exceeds-from-lts.Need-loop-preserved (exceeds-from-calls t) (exceeds-from-at t) exceeds-from.Post exceeds-from-Inv-loop exceeds-from-μ-loop
+exceeds-from-loop-again : (t : ℕ) → exceeds-from-lts.Need-loop-i-preserved-then-not-goes_with (exceeds-from-calls t) (exceeds-from-at t) exceeds-from.Post exceeds-from-Inv-loop exceeds-from-μ-loop
 exceeds-from-loop-again t c =
-    let inv = c.before.before.before.before.before.before.before.before.before.before.before.before.before.before.before.before.before.before.before.before.before.before.before.before.before.before.before.before.loop.invariant.0 in
-    let out = c.before.before.before.before.before.before.before.before.before.before.before.before.before.before.before.before.before.before.before.before.before.before.shared in
-    let e = c.before.before.before.before.before.before.before.before.before.before.before.exceeds-from in (
-      (out.auto.1.1.1.0 ∙ inv.0, e.auto.1.1.1.1.1.0 ∙ inv.1, e.auto.1.1.1.1.1.1.0 ∙ inv.2, e.auto.1.1.1.1.1.1.1.1.0 ∙ inv.3, e.auto.1.1.1.1.1.1.1.1.1.0 ∙ inv.4, e.auto.1.1.1.1.1.1.1.0 ∙ inv.5, e.auto.1.1.1.1.1.1.1.1.1.1.0 ∙ inv.6),
-      try-next c.before.before.before.before.before.before.before.before.before.before.before.before.before.before.before.before.before.before.before.before.before.before.before.before.before.before.before.before.loop.invariant.1 _ c.before.before.before.before.before.before.before.before.before.before.before.before.before.before.before.before.before.before.before.before.before.before.before.before.before.before.before.loop-test.true refl c.before.before.before.before.before.before.before.before.before.before.before.before.before.before.before.before.before.before.before.rest_of.ensures out.ensures.1 e.ensures c.if5.false,
+    let inv = c.loop-i.invariant.0 in
+    let out = c.shared-k in
+    let e = c.exceeds_from in (
+      (out.auto.out ∙ inv.0, e.auto.one ∙ inv.1, e.auto.two ∙ inv.2, e.auto.first ∙ inv.3, e.auto.second ∙ inv.4, e.auto.three ∙ inv.5, e.auto.third ∙ inv.6),
+      try-next c.loop-i.invariant.1 _ c.loop-i-test.true refl c.rest_of.ensures out.ensures.1 e.ensures c.if-exceeds_from.false,
     )
 
-exceeds-from-loop-less-2 : (t : ℕ) → exceeds-from-lts.Need-loop-smaller-2 (exceeds-from-calls t) (exceeds-from-at t) exceeds-from.Post exceeds-from-Inv-loop exceeds-from-μ-loop
-exceeds-from-loop-less-2 t c = let test = c.before.before.before.loop-test.true in omega arith
+exceeds-from-loop-less-2 : (t : ℕ) → exceeds-from-lts.Need-loop-i-smaller (exceeds-from-calls t) (exceeds-from-at t) exceeds-from.Post exceeds-from-Inv-loop exceeds-from-μ-loop
+exceeds-from-loop-less-2 t c = let test = c.loop-i-test.true in omega arith
 
-exceeds-from-loop-again-2 : (t : ℕ) → exceeds-from-lts.Need-loop-preserved-2 (exceeds-from-calls t) (exceeds-from-at t) exceeds-from.Post exceeds-from-Inv-loop exceeds-from-μ-loop
-exceeds-from-loop-again-2 t c = (c.before.before.before.before.loop.invariant.0, try-skip c.before.before.before.before.loop.invariant.1 _ c.before.before.before.loop-test.true refl c.before.Goes-with.ensures (not-false _ c.if4.false))
+exceeds-from-loop-again-2 : (t : ℕ) → exceeds-from-lts.Need-loop-i-preserved (exceeds-from-calls t) (exceeds-from-at t) exceeds-from.Post exceeds-from-Inv-loop exceeds-from-μ-loop
+exceeds-from-loop-again-2 t c = (c.loop-i.invariant.0, try-skip c.loop-i.invariant.1 _ c.loop-i-test.true refl c.goes_with.ensures c.if-not-goes_with.false)
 
-exceeds-from-same-length-8 : (t : ℕ) → exceeds-from-lts.Need-same-length-8 (exceeds-from-calls t) (exceeds-from-at t) exceeds-from.Post exceeds-from-Inv-loop exceeds-from-μ-loop
+exceeds-from-same-length-8 : (t : ℕ) → exceeds-from-lts.Need-shape_of-one (exceeds-from-calls t) (exceeds-from-at t) exceeds-from.Post exceeds-from-Inv-loop exceeds-from-μ-loop
 exceeds-from-same-length-8 t c = search rules
 
-exceeds-from-same-length-9 : (t : ℕ) → exceeds-from-lts.Need-same-length-9 (exceeds-from-calls t) (exceeds-from-at t) exceeds-from.Post exceeds-from-Inv-loop exceeds-from-μ-loop
+exceeds-from-same-length-9 : (t : ℕ) → exceeds-from-lts.Need-shape_of-two (exceeds-from-calls t) (exceeds-from-at t) exceeds-from.Post exceeds-from-Inv-loop exceeds-from-μ-loop
 exceeds-from-same-length-9 t c = search rules
 
-exceeds-from-same-length-10 : (t : ℕ) → exceeds-from-lts.Need-same-length-10 (exceeds-from-calls t) (exceeds-from-at t) exceeds-from.Post exceeds-from-Inv-loop exceeds-from-μ-loop
+exceeds-from-same-length-10 : (t : ℕ) → exceeds-from-lts.Need-shape_of-three (exceeds-from-calls t) (exceeds-from-at t) exceeds-from.Post exceeds-from-Inv-loop exceeds-from-μ-loop
 exceeds-from-same-length-10 t c = search rules
 
-exceeds-from-same-length-11 : (t : ℕ) → exceeds-from-lts.Need-same-length-11 (exceeds-from-calls t) (exceeds-from-at t) exceeds-from.Post exceeds-from-Inv-loop exceeds-from-μ-loop
+exceeds-from-same-length-11 : (t : ℕ) → exceeds-from-lts.Need-shape_of-first (exceeds-from-calls t) (exceeds-from-at t) exceeds-from.Post exceeds-from-Inv-loop exceeds-from-μ-loop
 exceeds-from-same-length-11 t c = search rules
 
-exceeds-from-same-length-12 : (t : ℕ) → exceeds-from-lts.Need-same-length-12 (exceeds-from-calls t) (exceeds-from-at t) exceeds-from.Post exceeds-from-Inv-loop exceeds-from-μ-loop
+exceeds-from-same-length-12 : (t : ℕ) → exceeds-from-lts.Need-shape_of-second (exceeds-from-calls t) (exceeds-from-at t) exceeds-from.Post exceeds-from-Inv-loop exceeds-from-μ-loop
 exceeds-from-same-length-12 t c = search rules
 
-exceeds-from-same-length-13 : (t : ℕ) → exceeds-from-lts.Need-same-length-13 (exceeds-from-calls t) (exceeds-from-at t) exceeds-from.Post exceeds-from-Inv-loop exceeds-from-μ-loop
+exceeds-from-same-length-13 : (t : ℕ) → exceeds-from-lts.Need-shape_of-third (exceeds-from-calls t) (exceeds-from-at t) exceeds-from.Post exceeds-from-Inv-loop exceeds-from-μ-loop
 exceeds-from-same-length-13 t c = search rules
 
-exceeds-from-returns-5 : (t : ℕ) → exceeds-from-lts.Need-returns-5 (exceeds-from-calls t) (exceeds-from-at t) exceeds-from.Post exceeds-from-Inv-loop exceeds-from-μ-loop
-exceeds-from-returns-5 t c = try-done c.before.loop.invariant.1 c.loop-test.false
+exceeds-from-returns-5 : (t : ℕ) → exceeds-from-lts.Need-returns (exceeds-from-calls t) (exceeds-from-at t) exceeds-from.Post exceeds-from-Inv-loop exceeds-from-μ-loop
+exceeds-from-returns-5 t c = try-done c.loop-i.invariant.1 c.loop-i-test.false
 
 pub +exceeds_from_spec : {M : Type 1} → statement M
 +exceeds_from_spec = close μ-exceeds-from λ t. exceeds-from-lts.spec (exceeds-from-calls t)

@@ -6,11 +6,11 @@ use Rattle.build_longlist.proofs.Exceeding.{goes-from}
 use Rattle.build_longlist.proofs.exceed.goes_with.Statement.{statement}
 use Rattle.build_longlist.proofs.exceed.goes_with.Tie as tie
 
-returns-2 : tie.Need-returns-2
+returns-2 : tie.Need-returns-then-near-list
 returns-2 c =
-    let near = c.before.before in
-    let s = near.before.before.before.before in
-    goes-from _ _ _ _ _ _ near.words_of.ensures c.Goes-near.ensures s.requires.0 s.requires.1 (omega arith)
+    let near = c in
+    let s = near in
+    goes-from _ _ _ _ _ _ near.words_of-near.ensures c.goes_near.ensures s.requires.0 s.requires.1 (omega arith)
 
 pub goes_with_spec : {M : Type 1} → statement M
 unfolding goes_with

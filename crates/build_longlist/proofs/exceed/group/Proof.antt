@@ -6,7 +6,7 @@ use Rattle.build_longlist.proofs.Sifting.{sorted-front}
 use Rattle.build_longlist.proofs.exceed.group.Statement.{statement}
 use Rattle.build_longlist.proofs.exceed.group.Tie as tie
 
-slice-aggregate-sort : tie.Need-slice-aggregate-sort
+slice-aggregate-sort : tie.Need-slice_bounds-sort-end-2
 slice-aggregate-sort c = simp length-take (omega arith)
 
 sort-requires : tie.Need-sort-requires
@@ -14,8 +14,8 @@ sort-requires c κs = simp length-take (omega arith)
 
 returns : tie.Need-returns
 returns c =
-    let sift = c.before.before.before.before.before.before.before.before.before.before.before.sift in
-    (sift.ensures.0, sorted-front _ _ _ sift.ensures sift.auto.1.1.1.0 c.before.before.before.before.sort.ensures.0)
+    let sift = c.sift-k in
+    (sift.ensures.0, sorted-front _ _ _ sift.ensures sift.auto.ids c.sort.ensures.0)
 
 pub group_spec : {M : Type 1} → statement M
 group_spec =

@@ -8,96 +8,96 @@ use Rattle.build_longlist.proofs.Sifting.{Sifting, sift-start, sift-skip, sift-k
 use Rattle.build_longlist.proofs.exceed.sift.Statement.{statement}
 use Rattle.build_longlist.proofs.exceed.sift.Tie as tie
 
-abbrev invariant-loop : tie.invariant-loop
+abbrev invariant-loop : tie.invariant-loop-i
 invariant-loop joined list most ids₀ room₀ n k₀ i₀ ids room k i =
     (n ≡ length ids₀) × ((length room ≡ length room₀) × Sifting joined list most ids₀ ids k i)
 
-abbrev decreases-loop : tie.decreases-loop
+abbrev decreases-loop : tie.decreases-loop-i
 decreases-loop joined list most ids₀ room₀ n k₀ i₀ ids room k i = n - i
 
-loop-holds : tie.Need-loop-init invariant-loop decreases-loop
+loop-holds : tie.Need-loop-i-init invariant-loop decreases-loop
 loop-holds c = (refl, (refl, sift-start _))
 
-mul-u : tie.Need-overflow-mul-u invariant-loop decreases-loop
+mul-u : tie.Need-offset_bounds-ids-i invariant-loop decreases-loop
 mul-u c = search rules
 
-slice-read-u : tie.Need-slice-read-u invariant-loop decreases-loop
+slice-read-u : tie.Need-bounds-ids-i invariant-loop decreases-loop
 slice-read-u c = search rules
 
-add-i : tie.Need-overflow-add-i invariant-loop decreases-loop
+add-i : tie.Need-overflow_add-i invariant-loop decreases-loop
 add-i c = search rules
 
-shared-requires : tie.Need-shared-requires invariant-loop decreases-loop
+shared-requires : tie.Need-shared-c-requires invariant-loop decreases-loop
 shared-requires c κs =
-    let s = c.before.before.before.before.before.before.before.before in
-    let inv = c.before.before.before.loop.invariant in
+    let s = c in
+    let inv = c.loop-i.invariant in
     let room = inv.1.0 in
     let fits = s.requires.0 in
     (omega arith, s.requires.1)
 
-slice-reshare-prefix-mark-of : tie.Need-slice-reshare-prefix-mark-of invariant-loop decreases-loop
+slice-reshare-prefix-mark-of : tie.Need-slice_bounds-mark_of-end invariant-loop decreases-loop
 slice-reshare-prefix-mark-of c = search rules
 
-slice-aggregate-mark-of : tie.Need-slice-aggregate-mark-of invariant-loop decreases-loop
+slice-aggregate-mark-of : tie.Need-slice_bounds-mark_of-end-then-most-c invariant-loop decreases-loop
 slice-aggregate-mark-of c =
-    let out = c.before.before.before.before.shared in
-    let fits = c.before.before.before.before.before.before.before.before.before.before.before.before.before.requires.0 in
-    let room = c.before.before.before.before.before.before.before.before.loop.invariant.1.0 in
-    let kept = out.auto.1.1.1.0 in
+    let out = c.shared-c in
+    let fits = c.requires.0 in
+    let room = c.loop-i.invariant.1.0 in
+    let kept = out.auto.out in
     let few = out.ensures.0 in
     simp length-take (omega arith)
 
-mark-of-requires : tie.Need-mark-of-requires invariant-loop decreases-loop
+mark-of-requires : tie.Need-mark_of-requires invariant-loop decreases-loop
 mark-of-requires c κs = search rules
 
-mul-ids : tie.Need-overflow-mul-ids invariant-loop decreases-loop
+mul-ids : tie.Need-overflow_mul-ids invariant-loop decreases-loop
 mul-ids c = search rules
 
-add-ids : tie.Need-overflow-add-ids invariant-loop decreases-loop
+add-ids : tie.Need-overflow_add-ids invariant-loop decreases-loop
 add-ids c = search rules
 
-mul-ids-2 : tie.Need-overflow-mul-ids-2 invariant-loop decreases-loop
+mul-ids-2 : tie.Need-offset_bounds-ids-k invariant-loop decreases-loop
 mul-ids-2 c = search rules
 
-slice-write-ids : tie.Need-slice-write-ids invariant-loop decreases-loop
+slice-write-ids : tie.Need-bounds-ids-k invariant-loop decreases-loop
 slice-write-ids c = search rules
 
-add-k : tie.Need-overflow-add-k invariant-loop decreases-loop
+add-k : tie.Need-overflow_add-k invariant-loop decreases-loop
 add-k c = search rules
 
-loop-less : tie.Need-loop-smaller invariant-loop decreases-loop
+loop-less : tie.Need-loop-i-smaller-then-most-c invariant-loop decreases-loop
 loop-less c = search rules
 
-loop-again : tie.Need-loop-preserved invariant-loop decreases-loop
+loop-again : tie.Need-loop-i-preserved-then-most-c invariant-loop decreases-loop
 loop-again c =
-    let turn = c.before.before.before.before.before.before.before.before in
-    let inv = turn.before.loop.invariant in
-    let out = c.before.before.before.before.before.shared in
-    let kept = out.auto.1.1.1.0 in
-    let n = part-count _ _ _ _ _ _ out.ensures.0 c.before.before.before.before.before.before.before.before.before.before.before.before.before.before.requires.0 inv.1.0 kept out.ensures.1 in
-    (inv.0, (kept ∙ inv.1.0, sift-keep inv.1.1 (omega arith) _ n c.before.before.if1.true))
+    let turn = c in
+    let inv = turn.loop-i.invariant in
+    let out = c.shared-c in
+    let kept = out.auto.out in
+    let n = part-count _ _ _ _ _ _ out.ensures.0 c.requires.0 inv.1.0 kept out.ensures.1 in
+    (inv.0, (kept ∙ inv.1.0, sift-keep inv.1.1 (omega arith) _ n c.if-most-c.true))
 
-loop-less-2 : tie.Need-loop-smaller-2 invariant-loop decreases-loop
+loop-less-2 : tie.Need-loop-i-smaller invariant-loop decreases-loop
 loop-less-2 c = search rules
 
-loop-again-2 : tie.Need-loop-preserved-2 invariant-loop decreases-loop
+loop-again-2 : tie.Need-loop-i-preserved invariant-loop decreases-loop
 loop-again-2 c =
-    let turn = c.before.before.before.before.before.before in
-    let inv = turn.before.loop.invariant in
-    let out = c.before.before.before.shared in
-    let kept = out.auto.1.1.1.0 in
-    let n = part-count _ _ _ _ _ _ out.ensures.0 c.before.before.before.before.before.before.before.before.before.before.before.before.requires.0 inv.1.0 kept out.ensures.1 in
-    (inv.0, (kept ∙ inv.1.0, sift-skip inv.1.1 (omega arith) n c.if1.false))
+    let turn = c in
+    let inv = turn.loop-i.invariant in
+    let out = c.shared-c in
+    let kept = out.auto.out in
+    let n = part-count _ _ _ _ _ _ out.ensures.0 c.requires.0 inv.1.0 kept out.ensures.1 in
+    (inv.0, (kept ∙ inv.1.0, sift-skip inv.1.1 (omega arith) n c.if-most-c.false))
 
-same-length : tie.Need-same-length invariant-loop decreases-loop
-same-length c = c.before.loop.invariant.1.1.long
+same-length : tie.Need-shape_of-ids invariant-loop decreases-loop
+same-length c = c.loop-i.invariant.1.1.long
 
-same-length-2 : tie.Need-same-length-2 invariant-loop decreases-loop
-same-length-2 c = c.before.loop.invariant.1.0
+same-length-2 : tie.Need-shape_of-room invariant-loop decreases-loop
+same-length-2 c = c.loop-i.invariant.1.0
 
 returns : tie.Need-returns invariant-loop decreases-loop
 returns c =
-    let inv = c.before.loop.invariant in
+    let inv = c.loop-i.invariant in
     sift-done inv.1.1 (omega (arith, inv.0))
 
 pub sift_spec : {M : Type 1} → statement M

@@ -12,40 +12,40 @@ use Rattle.build_neighbours.proofs.Pairing.{Gathering, more, gathered, turned_of
 use Rattle.build_neighbours.proofs.pairs.gather_turned.Statement.{statement}
 use Rattle.build_neighbours.proofs.pairs.gather_turned.Tie as tie
 
-abbrev invariant-loop : tie.invariant-loop
+abbrev invariant-loop : tie.invariant-loop-i
 invariant-loop nodes joined starts list s l out₀ k₀ i₀ out k i =
     ((i ≤ length list) × (k ≤ 65536)) × (length out ≡ length out₀)
     × Gathering (λ v. map turned (side_in nodes joined v s)) (turned_of nodes joined s list) out k (drop i list)
 
-abbrev decreases-loop : tie.decreases-loop
+abbrev decreases-loop : tie.decreases-loop-i
 decreases-loop nodes joined starts list s l out₀ k₀ i₀ out k i = length list - i
 
-loop-holds : tie.Need-loop-init invariant-loop decreases-loop
+loop-holds : tie.Need-loop-i-init invariant-loop decreases-loop
 loop-holds c = ((omega arith, omega arith), refl, record { todo = refl })
 
-side-of-requires : tie.Need-side-of-requires invariant-loop decreases-loop
+side-of-requires : tie.Need-side_of-words-requires invariant-loop decreases-loop
 side-of-requires c κs =
-    let turn = c.before in
-    let given = turn.before.before.before.before.before.before.before.requires.1 in
-    (node-low given.0 given.1 _ turn.loop-test.true, (given.0.arranged, given.0.begun))
+    let turn = c in
+    let given = turn.requires.1 in
+    (node-low given.0 given.1 _ turn.loop-i-test.true, (given.0.arranged, given.0.begun))
 
-loop-again : tie.Need-loop-preserved invariant-loop decreases-loop
+loop-again : tie.Need-loop-i-preserved invariant-loop decreases-loop
 loop-again c =
-    let done = c.before.before in
-    let side = done.before.before.before in
-    let turn = side.before.before in
-    let inv = turn.before.loop.invariant in (
+    let done = c in
+    let side = done in
+    let turn = side in
+    let inv = turn.loop-i.invariant in (
       (omega arith, omega arith),
-      done.add_turned.auto.1.0 ∙ inv.1,
-      more (rw (drop-next _ _ turn.loop-test.true) at inv.2) (ap (map turned) side.side-of.ensures) done.add_turned.ensures.1,
+      done.add_turned-k.auto.out ∙ inv.1,
+      more (rw (drop-next _ _ turn.loop-i-test.true) at inv.2) (ap (map turned) side.side_of-words.ensures) done.add_turned-k.ensures.1,
     )
 
-returns-2 : tie.Need-returns-2 invariant-loop decreases-loop
-returns-2 c = λ h. gathered (rw (drop_of_length-le _ {i = c.before.loop.i} c.loop-test.false) at c.before.loop.invariant.2)
+returns-2 : tie.Need-returns invariant-loop decreases-loop
+returns-2 c = λ h. gathered (rw (drop_of_length-le _ {i = c.loop-i.i} c.loop-i-test.false) at c.loop-i.invariant.2)
 
 pub gather_turned_spec : {M : Type 1} → statement M
 gather_turned_spec =
     tie.close
     (tie.spec invariant-loop decreases-loop loop-holds (λ c. search rules) (λ c. search rules) (λ c. search rules) side-of-requires (λ c. search rules)
-    (λ c. c.before.before.before.before.loop.invariant.1) (λ c. λ h. absurd (omega arith)) (λ c κs. search rules) (λ c. search rules) loop-again
-    (λ c. c.before.loop.invariant.1) returns-2)
+    (λ c. c.loop-i.invariant.1) (λ c. λ h. absurd (omega arith)) (λ c κs. search rules) (λ c. search rules) loop-again
+    (λ c. c.loop-i.invariant.1) returns-2)

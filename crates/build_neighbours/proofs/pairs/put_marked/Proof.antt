@@ -10,15 +10,15 @@ use Rattle.build_neighbours.proofs.pairs.put_marked.Tie as tie
 
 mark-requires : tie.Need-mark-requires
 mark-requires c κs =
-    let found = c.before.before.before in
-    let s = found.before.before.before.before in
-    (omega arith, labelled-low _ _ _ _ s.requires.1 (omega arith) found.labelled.ensures.1)
+    let found = c in
+    let s = found in
+    (omega arith, labelled-low _ _ _ _ s.requires.1 (omega arith) found.labelled-n.ensures.1)
 
 returns : tie.Need-returns
 returns c =
-    let done = c.before.before in
-    let found = done.before.before.before.before in
-    (found.labelled.ensures.0, done.mark.ensures ∙ ap (map marked) found.labelled.ensures.1)
+    let done = c in
+    let found = done in
+    (found.labelled-n.ensures.0, done.mark.ensures ∙ ap (map marked) found.labelled-n.ensures.1)
 
 pub put_marked_spec : {M : Type 1} → statement M
 put_marked_spec = tie.close (tie.spec (λ c κs. search rules) mark-requires (λ c. search rules) returns)

@@ -5,19 +5,19 @@ use Rattle.build_neighbours.proofs.Pairing.{shared-side, shared-list}
 use Rattle.build_neighbours.proofs.pairs.shared.Statement.{statement}
 use Rattle.build_neighbours.proofs.pairs.shared.Tie as tie
 
-returns : tie.Need-returns
+returns : tie.Need-returns-then-words-list
 returns c =
-    let done = c.before.before in
-    let side = done.before.before.before in
-    let s = side.before.before.before.before.before.before in
-    (omega arith, shared-side s.requires.1.0 s.requires.1.1.1 _ s.requires.0.0 side.side-of.ensures done.shared-near.ensures.1)
+    let done = c in
+    let side = done in
+    let s = side in
+    (omega arith, shared-side s.requires.1.0 s.requires.1.1.1 _ s.requires.0.0 side.side_of-words.ensures done.shared_near.ensures.1)
 
-returns-2 : tie.Need-returns-2
+returns-2 : tie.Need-returns
 returns-2 c =
-    let done = c.before.before in
-    let side = done.before.before.before in
-    let s = side.before.before.before.before.before.before in
-    (omega arith, shared-list s.requires.1.0 s.requires.1.1.1 _ s.requires.0.0 side.side-of.ensures done.shared-listed.ensures.1)
+    let done = c in
+    let side = done in
+    let s = side in
+    (omega arith, shared-list s.requires.1.0 s.requires.1.1.1 _ s.requires.0.0 side.side_of-words.ensures done.shared_listed.ensures.1)
 
 pub shared_spec : {M : Type 1} → statement M
 shared_spec =

@@ -7,27 +7,27 @@ use Rattle.build_neighbours.proofs.Arranging.{by-keys}
 use Rattle.build_neighbours.proofs.places.arrange_one.Statement.{statement}
 use Rattle.build_neighbours.proofs.places.arrange_one.Tie as tie
 
-slice-aggregate-sort : tie.Need-slice-aggregate-sort
+slice-aggregate-sort : tie.Need-slice_bounds-sort-end-2
 slice-aggregate-sort c = simp length-take (omega arith)
 
 sort-requires : tie.Need-sort-requires
 sort-requires c κs = simp length-take (omega arith)
 
-slice-aggregate-put-words : tie.Need-slice-aggregate-put-words
+slice-aggregate-put-words : tie.Need-slice_bounds-put_words-end-2
 slice-aggregate-put-words c = simp length-take (omega arith)
 
-put-words-requires : tie.Need-put-words-requires
+put-words-requires : tie.Need-put_words-requires
 put-words-requires c κs =
-    let read = c.before.before.before.before.before.before.before.before.before.before.before.before.before.before in
-    (omega (arith, read.slice-known4.given 0), simp length-take (omega arith))
+    let read = c in
+    (omega (arith, read.slice_known-4-1.given 0), simp length-take (omega arith))
 
 returns : tie.Need-returns
 returns c =
-    let put = c.before.before in
-    let sorted = put.before.before.before.before.before.before.before in
-    let keyed = sorted.before.before.before.before.before in
-    let a = keyed.before.before.before.before.before.before.before.before.args in
-    by-keys a.nodes.now a.words.now a.keys.now _ _ _ (get_or a.words.now 0 0 / 65536) keyed.put-keys.ensures sorted.sort.ensures.0 put.put-words.ensures
+    let put = c in
+    let sorted = put in
+    let keyed = sorted in
+    let a = keyed.args in
+    by-keys a.nodes.now a.words.now a.keys.now _ _ _ (get_or a.words.now 0 0 / 65536) keyed.put_keys.ensures sorted.sort.ensures.0 put.put_words.ensures
 
 pub arrange_one_spec : {M : Type 1} → statement M
 arrange_one_spec =

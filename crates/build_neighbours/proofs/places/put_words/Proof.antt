@@ -8,20 +8,20 @@ use Rattle.build_neighbours.proofs.Arranging.{Mapped, begun, mapped, all-mapped}
 use Rattle.build_neighbours.proofs.places.put_words.Statement.{statement}
 use Rattle.build_neighbours.proofs.places.put_words.Tie as tie
 
-abbrev invariant-loop : tie.invariant-loop
+abbrev invariant-loop : tie.invariant-loop-i
 invariant-loop v keys words₀ i₀ words i = Mapped (word_for v) keys words₀ i words
 
-abbrev decreases-loop : tie.decreases-loop
+abbrev decreases-loop : tie.decreases-loop-i
 decreases-loop v keys words₀ i₀ words i = length keys - i
 
-loop-holds : tie.Need-loop-init invariant-loop decreases-loop
+loop-holds : tie.Need-loop-i-init invariant-loop decreases-loop
 loop-holds c = search (begun, rules)
 
-loop-again : tie.Need-loop-preserved invariant-loop decreases-loop
+loop-again : tie.Need-loop-i-preserved invariant-loop decreases-loop
 unfolding word_for
 loop-again c =
-    let head = c.before.before in
-    mapped head.loop.invariant _ c.before.loop-test.true head.before.requires.1 refl
+    let head = c in
+    mapped head.loop-i.invariant _ c.loop-i-test.true head.requires.1 refl
 
 returns : tie.Need-returns invariant-loop decreases-loop
 returns c = search (all-mapped, rules)

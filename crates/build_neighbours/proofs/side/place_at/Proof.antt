@@ -5,8 +5,8 @@ use Rattle.build_neighbours.proofs.Sought.{node-room}
 use Rattle.build_neighbours.proofs.side.place_at.Statement.{statement}
 use Rattle.build_neighbours.proofs.side.place_at.Tie as tie
 
-label-at-requires : tie.Need-label-at-requires
-label-at-requires c κs = node-room _ c.before.before.before.requires.1 c.before.before.before.requires.0
+label-at-requires : tie.Need-label_at-l-requires
+label-at-requires c κs = node-room _ c.requires.1 c.requires.0
 
 returns : tie.Need-returns
 unfolding place_of

@@ -5,7 +5,7 @@ use Rattle.build_neighbours.proofs.side.place_below.Statement.{statement}
 use Rattle.build_neighbours.proofs.side.place_below.Tie as tie
 
 returns : tie.Need-returns
-returns c = let s = c.before.before.before in below-place _ _ _ s.requires.1 s.requires.0 c.place_at.ensures
+returns c = let s = c in below-place _ _ _ s.requires.1 s.requires.0 c.place_at.ensures
 
 pub place_below_spec : {M : Type 1} → statement M
 place_below_spec = tie.close (tie.spec (λ c κs. search rules) returns)

@@ -6,10 +6,10 @@ use Rattle.laws.specs.Turns.{turns}
 use Rattle.store_lookup.proofs.fitness.lowest_rule.Statement.{statement}
 use Rattle.store_lookup.proofs.fitness.lowest_rule.Tie as tie
 
-abbrev invariant-loop : tie.invariant-loop
+abbrev invariant-loop : tie.invariant-loop-i
 invariant-loop nodes c size list count low₀ i₀ low i = FoldLeft (lowered nodes c size list) count i low (lowest_rule nodes c size list count)
 
-abbrev decreases-loop : tie.decreases-loop
+abbrev decreases-loop : tie.decreases-loop-i
 decreases-loop nodes c size list count low₀ i₀ low i = count - i
 
 pub lowest_rule_spec : {M : Type 1} → statement M

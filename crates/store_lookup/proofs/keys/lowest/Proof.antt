@@ -7,10 +7,10 @@ use Rattle.laws.specs.Turns.{turns}
 use Rattle.store_lookup.proofs.keys.lowest.Statement.{statement}
 use Rattle.store_lookup.proofs.keys.lowest.Tie as tie
 
-abbrev invariant-loop : tie.invariant-loop
+abbrev invariant-loop : tie.invariant-loop-low
 invariant-loop groups key low₀ high₀ low high = HalvingLeft (precedes groups key) (groups_in groups) low high (low_of groups key)
 
-abbrev decreases-loop : tie.decreases-loop
+abbrev decreases-loop : tie.decreases-loop-low
 decreases-loop groups key low₀ high₀ low high = high - low
 
 pub lowest_spec : {M : Type 1} → statement M
