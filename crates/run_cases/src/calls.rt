@@ -1,25 +1,24 @@
 // Makes a call and says what came: the number, the results, and how far each room was changed.
 ghost use Rattle.std.specs.Prelude.{◌≤◌, length};
 
-use libc::STDOUT_FILENO;
 use rules::Listed;
 
-// Writes text.
-pub fn say(text: &[u8]) {
-    io::write_all(STDOUT_FILENO, text);
+// Writes text; a write that fails is left at that.
+pub fn say(rt: &impl Print, text: &[u8]) {
+    let _ = rt.write_all(text);
 }
 
 // Writes a name and a number.
-fn say_number(name: &[u8], n: u64) {
-    say(name);
-    io::print_decimal(STDOUT_FILENO, n);
+fn say_number(rt: &impl Print, name: &[u8], n: u64) {
+    say(rt, name);
+    let _ = rt.print(n);
 }
 
 // Writes which call was made on what, and its number.
-fn say_answer(call: &[u8], what: &[u8], number: u32) {
-    say(call);
-    say(what);
-    say_number(b": ", number as u64);
+fn say_answer(rt: &impl Print, call: &[u8], what: &[u8], number: u32) {
+    say(rt, call);
+    say(rt, what);
+    say_number(rt, b": ", number as u64);
 }
 
 // How far a room that held nines was changed: the place past the last byte that is not 9.
@@ -47,60 +46,68 @@ fn changed_words(room: &[u32]) -> usize {
 }
 
 // Builds a draft into the first bytes of a room of nines.
-fn build_in(what: &[u8], draft: &[u8], room: &mut [u8], bytes: usize)
+fn build_in(rt: &impl Print, what: &[u8], draft: &[u8], room: &mut [u8], bytes: usize)
     requires { bytes ≤ length room.old }
 {
     let built = build::build(draft, &mut room[..bytes]);
-    say_answer(b"building, ", what, built.number);
-    say_number(b"; length ", built.length as u64);
-    say_number(b"; bytes changed ", changed_bytes(room) as u64);
-    say(b"\n");
+    say_answer(rt, b"building, ", what, built.number);
+    say_number(rt, b"; length ", built.length as u64);
+    say_number(rt, b"; bytes changed ", changed_bytes(room) as u64);
+    say(rt, b"\n");
 }
 
 // Builds a draft into a room of this many bytes.
-pub fn building(what: &[u8], draft: &[u8], bytes: usize)
+pub fn building(rt: &impl Print, what: &[u8], draft: &[u8], bytes: usize)
     requires { bytes ≤ 434 }
 {
     let mut room = [9u8; 434];
-    build_in(what, draft, &mut room, bytes);
+    build_in(rt, what, draft, &mut room, bytes);
 }
 
 // Admits a store.
-pub fn admitting(what: &[u8], store: &[u8]) {
-    say_answer(b"admitting, ", what, build::admit(store));
-    say(b"\n");
+pub fn admitting(rt: &impl Print, what: &[u8], store: &[u8]) {
+    say_answer(rt, b"admitting, ", what, build::admit(store));
+    say(rt, b"\n");
 }
 
 // Plans a pattern into the first words of a room of nines.
-fn plan_in(what: &[u8], store: &[u8], pattern: &[u8], room: &mut [u32], words: usize)
+fn plan_in(
+    rt: &impl Print,
+    what: &[u8],
+    store: &[u8],
+    pattern: &[u8],
+    room: &mut [u32],
+    words: usize,
+)
     requires { words ≤ length room.old }
 {
     let planned = plan::plan(store, pattern, &mut room[..words]);
-    say_answer(b"planning, ", what, planned.number);
-    say_number(b"; bound ", planned.bound as u64);
-    say_number(b"; words changed ", changed_words(room) as u64);
-    say(b"\n");
+    say_answer(rt, b"planning, ", what, planned.number);
+    say_number(rt, b"; bound ", planned.bound as u64);
+    say_number(rt, b"; words changed ", changed_words(room) as u64);
+    say(rt, b"\n");
 }
 
 // Plans a pattern into a room of this many words.
-pub fn planning(what: &[u8], store: &[u8], pattern: &[u8], words: usize)
+pub fn planning(rt: &impl Print, what: &[u8], store: &[u8], pattern: &[u8], words: usize)
     requires { words ≤ 58 }
 {
     let mut room = [9u32; 58];
-    plan_in(what, store, pattern, &mut room, words);
+    plan_in(rt, what, store, pattern, &mut room, words);
 }
 
 // Writes what listing gave back.
-fn say_listed(what: &[u8], listed: Listed) {
-    say_answer(b"listing, ", what, listed.number);
-    say_number(b"; matches ", listed.matches);
-    say_number(b" nodes ", listed.nodes as u64);
-    say_number(b" edges ", listed.edges as u64);
-    say_number(b" bound ", listed.bound as u64);
+fn say_listed(rt: &impl Print, what: &[u8], listed: Listed) {
+    say_answer(rt, b"listing, ", what, listed.number);
+    say_number(rt, b"; matches ", listed.matches);
+    say_number(rt, b" nodes ", listed.nodes as u64);
+    say_number(rt, b" edges ", listed.edges as u64);
+    say_number(rt, b" bound ", listed.bound as u64);
 }
 
 // Lists the matches of a pattern with the first words of two rooms of nines.
 fn list_in(
+    rt: &impl Print,
     what: &[u8],
     store: &[u8],
     pattern: &[u8],
@@ -112,17 +119,26 @@ fn list_in(
     requires { (working ≤ length work.old) × (words ≤ length room.old) }
 {
     let listed = list::list(store, pattern, &mut work[..working], &mut room[..words]);
-    say_listed(what, listed);
-    say_number(b"; words changed ", changed_words(room) as u64);
-    say_number(b", working ", changed_words(work) as u64);
-    say(b"\n");
+    say_listed(rt, what, listed);
+    say_number(rt, b"; words changed ", changed_words(room) as u64);
+    say_number(rt, b", working ", changed_words(work) as u64);
+    say(rt, b"\n");
 }
 
 // Lists the matches of a pattern with this many working words and result words.
-pub fn listing(what: &[u8], store: &[u8], pattern: &[u8], working: usize, words: usize)
+pub fn listing(
+    rt: &impl Print,
+    what: &[u8],
+    store: &[u8],
+    pattern: &[u8],
+    working: usize,
+    words: usize,
+)
     requires { (working ≤ 131072) × (words ≤ 6) }
 {
     let mut work = [9u32; 131072];
     let mut room = [9u32; 6];
-    list_in(what, store, pattern, &mut work, working, &mut room, words);
+    list_in(
+        rt, what, store, pattern, &mut work, working, &mut room, words,
+    );
 }

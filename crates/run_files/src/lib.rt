@@ -1,31 +1,54 @@
 // Whole files, read into a room and written from one. No contract can say what a file holds.
+// std takes a path as text: one that is not UTF-8 names no file here.
+#![tactic(auto)]
+
 ghost use Rattle.io.specs.Counts.{IsPrefixLen};
 
-// Reads a file into the room and answers its length; 0 if it cannot be read or is longer than the room.
-pub fn read_file(path: &[u8], room: &mut [u8]) -> usize
+use std::io::Read;
+use std::rt::Files;
+use std::{fs, str};
+
+// Reads until the room is full, the file ends or a read fails, and answers how many bytes it read.
+fn read_full(file: &mut impl Read, room: &mut [u8]) -> usize
     ensures { IsPrefixLen result room.new }
 {
-    let file = os::open_read(path);
-    if file < 0 {
-        return 0;
+    let mut done = 0;
+    while done < room.len() {
+        match file.read(&mut room[done..]) {
+            Ok(n) if 0 < n => done += n,
+            _ => break,
+        }
     }
-    let length = io::read_full(file, room);
+    done
+}
+
+// Says whether a file has ended: a read that fails says no.
+fn ended(file: &mut impl Read) -> bool {
     let mut past = [0u8; 1];
-    let more = libc::read(file, &mut past);
-    libc::close(file);
-    if more != 0 {
-        return 0;
+    match file.read(&mut past) {
+        Ok(n) => n == 0,
+        Err(_) => false,
     }
-    length
+}
+
+// Reads a file into the room and answers its length; 0 if it cannot be read or is longer than the room.
+pub fn read_file(rt: &impl Files, path: &[u8], room: &mut [u8]) -> usize
+    ensures { IsPrefixLen result room.new }
+{
+    let Ok(name) = str::from_utf8(path) else {
+        return 0;
+    };
+    let Ok(mut file) = fs::open(rt, name) else {
+        return 0;
+    };
+    let length = read_full(&mut file, room);
+    if ended(&mut file) { length } else { 0 }
 }
 
 // Writes a file anew, and answers whether all of it was written.
-pub fn write_file(path: &[u8], bytes: &[u8]) -> bool {
-    let file = os::open_overwrite(path);
-    if file < 0 {
-        return false;
+pub fn write_file(rt: &impl Files, path: &[u8], bytes: &[u8]) -> bool {
+    match str::from_utf8(path) {
+        Ok(name) => fs::write(rt, name, bytes).is_ok(),
+        Err(_) => false,
     }
-    let written = io::write_all(file, bytes);
-    libc::close(file);
-    written
 }

@@ -1,4 +1,6 @@
 // What the checks of a store say at the limits: one line a case, held to the file stdout.
+#![tactic(auto)]
+
 ghost use Rattle.std.specs.Prelude.{◌≡◌, ◌+◌, ◌≤◌, length};
 
 // The lowest 32 bits of a number: what is left of a sum that wraps in u32.
@@ -54,89 +56,89 @@ fn put_header(s: &mut [u8], n: u32, m: u32, k: u32)
     );
 }
 
-// Writes what a check said.
-fn say(right: bool) {
-    if right {
-        io::write_all(1, b"right\n");
-    } else {
-        io::write_all(1, b"wrong\n");
-    }
+// Writes what a check said; a write that fails is left at that.
+fn say(rt: &impl Print, right: bool) {
+    let text = if right { b"right\n" } else { b"wrong\n" };
+    let _ = rt.write_all(text);
 }
 
 // Says whether the first bytes are right.
-fn say_header(s: &[u8], bytes: usize)
+fn say_header(rt: &impl Print, s: &[u8], bytes: usize)
     requires { bytes ≤ length s.now }
 {
-    say(store::header_right(&s[0..bytes]));
+    say(rt, store::header_right(&s[0..bytes]));
 }
 
 // Says whether the first bytes are right, with a header of these counts.
-fn counted(s: &mut [u8], n: u32, m: u32, k: u32, bytes: usize)
+fn counted(rt: &impl Print, s: &mut [u8], n: u32, m: u32, k: u32, bytes: usize)
     requires { (524336 ≤ length s.old) × (bytes ≤ 524336) }
     ensures { length s.new ≡ length s.old }
 {
     put_header(s, n, m, k);
-    say_header(s, bytes);
+    say_header(rt, s, bytes);
 }
 
 // Says whether a store with all counts 0 is right, with x for one word of its header.
-fn changed(s: &mut [u8], at: usize, x: u32)
+fn changed(rt: &impl Print, s: &mut [u8], at: usize, x: u32)
     requires { (524336 ≤ length s.old) × (at + 4 ≤ 48) }
     ensures { length s.new ≡ length s.old }
 {
     put_header(s, 0, 0, 0);
     put(s, at, x);
-    say_header(s, 48);
+    say_header(rt, s, 48);
 }
 
 // No bytes, a header cut short, the store with all counts 0; the most nodes and one more, the most constraints and one more.
-fn counts(s: &mut [u8])
+fn counts(rt: &impl Print, s: &mut [u8])
     requires { 524336 ≤ length s.old }
     ensures { length s.new ≡ length s.old }
 {
-    counted(s, 0, 0, 0, 0);
-    counted(s, 0, 0, 0, 47);
-    counted(s, 0, 0, 0, 48);
-    counted(s, 65535, 0, 0, 524328);
-    counted(s, 65536, 0, 0, 524336);
-    counted(s, 0, 0, 32, 432);
-    counted(s, 0, 0, 33, 444);
+    counted(rt, s, 0, 0, 0, 0);
+    counted(rt, s, 0, 0, 0, 47);
+    counted(rt, s, 0, 0, 0, 48);
+    counted(rt, s, 65535, 0, 0, 524328);
+    counted(rt, s, 65536, 0, 0, 524336);
+    counted(rt, s, 0, 0, 32, 432);
+    counted(rt, s, 0, 0, 33, 444);
 }
 
 // Counts whose sections come to 48 bytes again if sums wrap; an offset, then the total, at 2^32 - 1.
-fn wraps(s: &mut [u8])
+fn wraps(rt: &impl Print, s: &mut [u8])
     requires { 524336 ≤ length s.old }
     ensures { length s.new ≡ length s.old }
 {
-    counted(s, 536870912, 0, 0, 48);
-    counted(s, 4294967295, 1, 0, 48);
-    changed(s, 40, 4294967295);
-    changed(s, 44, 4294967295);
+    counted(rt, s, 536870912, 0, 0, 48);
+    counted(rt, s, 4294967295, 1, 0, 48);
+    changed(rt, s, 40, 4294967295);
+    changed(rt, s, 44, 4294967295);
 }
 
 // Says whether a list among two entries is fit, for an empty S with N = 3 and l = 0.
-fn fit(start: u32, count: u32) {
+fn fit(rt: &impl Print, start: u32, count: u32) {
     let record = [0u8, 0, 0, 0, 0, 0, 0, 0, 3, 0, 0, 0];
     let entries = [0u8, 0, 0, 0, 0, 0, 0, 0, 1, 0, 0, 0, 0, 0, 0, 0];
     let nodes = [0u8; 16];
     let c = store::constraint_at(&record, 0);
-    say(store::rule_broken(&nodes, c, &entries, start, count) == 0);
+    say(
+        rt,
+        store::rule_broken(&nodes, c, &entries, start, count) == 0,
+    );
 }
 
 // Both parts of the header's cases, then lists that wrap, leave the entries, end with them, and are empty at their end.
-fn cases(s: &mut [u8])
+fn cases(rt: &impl Print, s: &mut [u8])
     requires { 524336 ≤ length s.old }
 {
-    counts(s);
-    wraps(s);
-    fit(4294967295, 2);
-    fit(4294967295, 0);
-    fit(3, 0);
-    fit(0, 2);
-    fit(2, 0);
+    counts(rt, s);
+    wraps(rt, s);
+    fit(rt, 4294967295, 2);
+    fit(rt, 4294967295, 0);
+    fit(rt, 3, 0);
+    fit(rt, 0, 2);
+    fit(rt, 2, 0);
 }
 
-fn main() {
+fn main(rt: HostRuntime) {
     let mut s = [0u8; 524336];
-    cases(&mut s);
+    cases(&rt, &mut s);
 }

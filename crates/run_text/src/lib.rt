@@ -1,4 +1,6 @@
 // Text: bytes and decimal numbers, written one after the other over a room of bytes.
+#![tactic(auto)]
+
 ghost use Rattle.std.specs.Prelude.{◌+◌, ◌≤◌, ◌++◌, length};
 ghost use Rattle.run_text.specs.Text.{decimal};
 ghost use Rattle.laws.specs.Writing.{Wrote};
