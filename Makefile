@@ -1,9 +1,6 @@
 # make run: the small world built, planned and listed. make quick: what a day's edits may have broken.
 # make test: everything that must hold; its last line is rt ci's own.
-.PHONY: run test quick kit telling reading programs lib install desk near here serve boundary compared fuzz bench
-
-# how many crates, and must-fail edits, are proved at a time: a level ends with its slowest, so more at a time than processors leaves these idle for less of it
-export RT_JOBS ?= 6
+.PHONY: run test quick kit layout telling reading programs lib install desk near here serve boundary compared fuzz bench
 
 # the calls of crate bahrufaz that the comparison makes
 CALLS = build admit plan list
@@ -17,8 +14,10 @@ endif
 # runs a step and tells a line for each crate and test; the whole output goes to target/gate
 TELL = tests/gate/tell.py
 
-run: kit
-	@$(TELL) programs --crates run_tour run_panel -- rt check run_tour run_panel
+# what proofs, programs and the library are made of
+SOURCES := crates.txt $(shell find crates -type f ! -path '*/must-fail/*' ! -path '*/out/*')
+
+run: kit crates/run_tour/out/run_tour crates/run_panel/out/run_panel
 	@mkdir -p target/run && cp crates/run_tour/data/* target/run
 	@echo; echo "The small world's draft is built into a store, and pattern A is planned (crates/run_tour):"
 	@cd target/run && ../../run.sh run_tour
@@ -30,15 +29,19 @@ test:
 
 # the loop of a day's work: the crates that changed and those above them, and the second reading; no edits, no library
 quick: kit
-	@$(TELL) format -- rt fmt --check
+	@$(TELL) format -- $(MAKE) --no-print-directory layout
 	@$(TELL) contracts -- tests/contracts.sh
-	@$(TELL) crates --crates --then reading -- rt check
+	@$(TELL) crates --crates --then reading -- rt all check
 	@$(TELL) reading -- $(MAKE) --no-print-directory reading
 
 # says so where another kit is at hand than the one that the project was proved with
 kit:
 	@command -v rt >/dev/null || { echo "kit: no Rattle kit here: the command rt is not found"; exit 1; }
 	@rt version | cmp -s - KIT || echo "kit: proved with $$(cat KIT), and here is another: $$(rt version)"
+
+# whether all files are as rt fmt lays them out, which rt ci asks of each crate; the kit's compiler tells without changing any
+layout:
+	@"$$(dirname "$$(readlink -f "$$(command -v rt)")")/rattle" fmt --check $(filter %.rt %.antt,$(SOURCES))
 
 # the tests of the gate itself: what it tells, when its last line comes, and what its checks of the documents find
 telling:
@@ -49,16 +52,20 @@ telling:
 reading:
 	cargo test --release --offline --manifest-path tests/Cargo.toml --lib --test small_world --test seeds --test large
 
+# a program, proved and built; rt runs it too, in its crate's folder, where it finds no files
+crates/run_tour/out/run_tour crates/run_panel/out/run_panel: $(SOURCES)
+	@$(TELL) $(@F) --crates $(@F) -- env -C crates/$(@F) rt run
+	@touch $@
+
 # the program of the rules, on files that are too long, missing or unreadable
-programs:
-	rt check run_panel
+programs: crates/run_panel/out/run_panel
 	python3 tests/programs.py
 
 # the library; include/bahrufaz.h says what it has: for x86-64 in target/staticlib, for the processor at hand in target/lib
 LIB = target/staticlib/libbahrufaz.a target/lib/libbahrufaz.a target/lib/libbahrufaz.so
 lib: $(LIB)
 
-$(LIB) &: lib/here.sh lib/module.sh lib/shared.sh VERSION crates.txt $(shell find crates -type f ! -path '*/must-fail/*')
+$(LIB) &: lib/here.sh lib/module.sh lib/shared.sh VERSION $(SOURCES)
 	@$(MAKE) --no-print-directory kit
 	@$(TELL) library --crates bahrufaz -- lib/here.sh
 

@@ -1,10 +1,24 @@
 #!/bin/sh
-# here.sh: target/staticlib/libbahrufaz.a, which the kit makes for x86-64, and the library for the processor
-# at hand: target/lib/libbahrufaz.a and target/lib/libbahrufaz.so. On x86-64 these come from that archive.
-# Elsewhere the module of that archive is compiled by the kit's clang once more for this processor.
+# here.sh [--proved]: target/staticlib/libbahrufaz.a, which the kit makes for x86-64, with its LLVM module, and the library for
+# the processor at hand: target/lib/libbahrufaz.a and target/lib/libbahrufaz.so. On x86-64 these come from that archive. Elsewhere
+# its module is compiled by the kit's clang once more for this processor.
+# --proved, right after an rt ci that found no libraries in crates/*/out: those that it proved and left there serve.
 set -eu
 cd "$(dirname "$0")/.."
 . lib/module.sh
+
+# of libraries that `rt lib` proves and builds anew where they changed; it makes the same archive, but keeps no module
+archive_of_kept() {
+    (cd crates/bahrufaz && rt lib)
+    build_archive --incremental out/incremental
+    cmp crates/bahrufaz/out/libbahrufaz.a target/staticlib/libbahrufaz.a
+}
+
+# of those of rt ci, which go then: no command takes them, and the next rt ci would give them back in place of its own
+archive_of_ci() {
+    build_archive
+    rm -rf crates/*/out/rlib
+}
 
 # the archive for this processor, from the module and with the flags that the kit has for its own
 archive_of_module() {
@@ -16,13 +30,14 @@ archive_of_module() {
 }
 
 mkdir -p target/lib
-# what the library rests on, proved several crates at a time: `rt staticlib` alone takes one after another
-rt check $(sed -n 's/^bahrufaz: //p' crates.txt)
+if [ "${1:-}" = --proved ]; then
+    archive_of_ci
+else
+    archive_of_kept
+fi
 if [ "$processor" = x86_64 ]; then
-    rt staticlib bahrufaz
     cp target/staticlib/libbahrufaz.a target/lib/libbahrufaz.a
 else
-    keep_module
     archive_of_module
 fi
 lib/shared.sh

@@ -1,44 +1,43 @@
-# module.sh, for other scripts: the LLVM module that the kit's compiler hands clang for x86-64, kept as it
-# passes by a clang of our own in a copy of the kit's tree of links. Sets kit, tools and ours.
+# module.sh, for other scripts: the archive that the kit's compiler makes of crate bahrufaz for x86-64, and the LLVM module that
+# it hands clang for it, kept as it passes by a clang of our own. Sets kit, tools and ours.
 processor=$(uname -m)
 kit=$(cd "$(dirname "$(readlink -f "$(command -v rt)")")/.." && pwd -P)
-tools=$kit/on/$processor/toolchain
+tools=$kit/toolchain
 ours=$(pwd -P)/target/here
 
-# links to all that stands in a directory but one name: link_all FROM TO NAME
-link_all() {
-    mkdir -p "$2"
-    for entry in "$1"/*; do
-        [ "${entry##*/}" = "$3" ] || ln -s "$(readlink -f "$entry")" "$2/${entry##*/}"
-    done
-}
-
-# the kit's tree, with a clang that keeps the module
-own_tree() {
+# the kit's tools, and a clang that keeps the module
+own_tools() {
     rm -rf "$ours"
-    link_all "$kit" "$ours" on
-    link_all "$kit/on/$processor" "$ours/on/$processor" toolchain
-    link_all "$tools" "$ours/on/$processor/toolchain" bin
-    link_all "$tools/bin" "$ours/on/$processor/toolchain/bin" clang
-    cat >"$ours/on/$processor/toolchain/bin/clang" <<END
-#!/bin/sh
-[ ! -f module.bc ] || cp module.bc "$ours/module.bc"
-exec "$tools/bin/clang" "\$@"
-END
-    chmod +x "$ours/on/$processor/toolchain/bin/clang"
+    mkdir -p "$ours/bin"
+    for tool in clang ld.lld llvm-ar; do
+        printf '#!/bin/sh\nexec "%s" "$@"\n' "$tools/bin/$tool" >"$ours/bin/$tool"
+        chmod +x "$ours/bin/$tool"
+    done
+    sed -i "2i [ ! -f module.bc ] || cp module.bc '$ours/bahrufaz.bc'" "$ours/bin/clang"
 }
 
-# target/staticlib/libbahrufaz.a, and its module in $ours/module.bc
-keep_module() {
-    own_tree
-    RATTLE_HOME="$ours" rt staticlib bahrufaz
+# target/staticlib/libbahrufaz.a and its module bahrufaz.bc beside it, over the libraries as they stand in crates/*/out: what
+# `rt lib` has rattle do there, but with these tools. build_archive FLAG..
+build_archive() {
+    own_tools
+    for name in $(sed -n 's/^bahrufaz staticlib: //p' crates.txt); do
+        set -- "$@" --extern "$name=../$name/out/rlib/$name.rlib"
+    done
+    for folder in crates/*/out/rlib; do
+        set -- "$@" -L "dependency=../../$folder"
+    done
+    (cd crates/bahrufaz && "$kit/bin/rattle" build --crate-name bahrufaz src/lib.rt --crate-type staticlib \
+        --extern "std=$kit/rlibs/std.rlib" -L "dependency=$kit/rlibs" --antt-project "$kit/rattle/logic/antt-project.json" \
+        --logic-built "$kit/logic_built" --toolchain "$ours" "$@" -o "$ours/libbahrufaz.a")
+    mkdir -p target/staticlib
+    mv "$ours/bahrufaz.bc" "$ours/libbahrufaz.a" target/staticlib
 }
 
 # the kit's clang on the module, with the flags of a target: compile_module OUT FLAG..
 compile_module() {
     out=$1
     shift
-    if ! "$tools/bin/clang" -Wno-override-module -O3 "$@" -c -x ir "$ours/module.bc" -o "$out" 2>"$ours/log"; then
+    if ! "$tools/bin/clang" -Wno-override-module -O3 "$@" -c -x ir target/staticlib/bahrufaz.bc -o "$out" 2>"$ours/log"; then
         cat "$ours/log" >&2
         exit 1
     fi

@@ -1,7 +1,7 @@
 #!/bin/sh
-# shared.sh: the shared library of target/lib/libbahrufaz.a, beside it: libbahrufaz.so.VERSION, and the two names that
-# lead to it. A program asks at run time for libbahrufaz.so.0, the first number of the version, so a library with other
-# calls does not take its place unseen. Only the calls of the header are seen from outside.
+# shared.sh: the shared library of target/lib/libbahrufaz.a, beside it: libbahrufaz.so.VERSION, and its two shorter names, which
+# are no links, since rt ci takes none in a checkout. A program asks at run time for libbahrufaz.so.0, the first number of the
+# version, so a library with other calls does not take its place unseen. Only the calls of the header are seen from outside.
 set -eu
 cd "$(dirname "$0")/.."
 version=$(cat VERSION)
@@ -13,5 +13,5 @@ echo "{ global: bahrufaz_*; local: *; };" >calls.map
 rm calls.map
 # a program may have the old one open: the new one takes its place at once
 mv shared.new "libbahrufaz.so.$version"
-ln -sf "libbahrufaz.so.$version" "$soname"
-ln -sf "$soname" libbahrufaz.so
+ln -f "libbahrufaz.so.$version" "$soname"
+ln -f "$soname" libbahrufaz.so

@@ -5,14 +5,6 @@ set -eu
 cd "$(dirname "$0")/.."
 . lib/module.sh
 
-# the archive that stands there already must come out again, byte for byte: so the module is that archive's
-keep_module_of_archive() {
-    archive=target/staticlib/libbahrufaz.a
-    before=$(cksum <"$archive")
-    keep_module
-    [ "$before" = "$(cksum <"$archive")" ] || { echo "wasm: $archive has changed: run make lib again" >&2 && exit 1; }
-}
-
 # every call that the header declares; the stack comes first, so that too deep a one traps and overwrites nothing
 link_calls() {
     exports=$(sed -n 's/^uint32_t \(bahrufaz_[a-z_]*\)(.*/--export=\1/p' include/bahrufaz.h)
@@ -21,8 +13,7 @@ link_calls() {
     mv target/wasm/bahrufaz.wasm.new target/wasm/bahrufaz.wasm
 }
 
-mkdir -p target/wasm
-keep_module_of_archive
+mkdir -p target/wasm "$ours"
 compile_module "$ours/wasm.o" --target=wasm32-unknown-unknown -mbulk-memory
 link_calls
 echo "wasm: target/wasm/bahrufaz.wasm has $(wc -c <target/wasm/bahrufaz.wasm) bytes"

@@ -1,5 +1,5 @@
 #!/usr/bin/env python3
-"""What 01 says of the files of the program run_panel, held on the program itself: `rt check run_panel` makes it."""
+"""What 01 says of the files of the program run_panel, held on the program itself: `make programs` builds it first."""
 
 import os
 import struct

@@ -118,14 +118,20 @@ class Streams(CommandCase):
             "print('ready', flush=True); sys.exit(run())"
         )
         environment = {"PATH": os.environ["PATH"], "PYTHONPATH": str(CHECKOUT / "python")}
+        store = Path("large.store")
         for delay in (0.02, 0.1, 0.3, 0.6):
-            process = subprocess.Popen(
-                [sys.executable, "-c", script], stdout=subprocess.PIPE, stderr=subprocess.PIPE, env=environment
-            )
-            self.assertEqual(process.stdout.readline(), b"ready\n")
-            time.sleep(delay)
-            process.send_signal(signal.SIGINT)
-            _, err = process.communicate()
+            for _ in range(8):
+                store.unlink(missing_ok=True)
+                process = subprocess.Popen(
+                    [sys.executable, "-c", script], stdout=subprocess.PIPE, stderr=subprocess.PIPE, env=environment
+                )
+                self.assertEqual(process.stdout.readline(), b"ready\n")
+                time.sleep(delay)
+                process.send_signal(signal.SIGINT)
+                _, err = process.communicate()
+                # one that falls into Python's own end, after the command's, says nothing of the command, and is tried again
+                if not (process.returncode == -signal.SIGINT and store.exists()):
+                    break
             self.assertIn(process.returncode, (0, 130), err)
             self.assertEqual(err, b"")
         self.assertFalse([name for name in os.listdir(".") if name.startswith(".bahrufaz-")])

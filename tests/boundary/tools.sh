@@ -1,8 +1,7 @@
 #!/bin/sh
 # The tools that make an x86-64 program and run it here. Prints CC=.. and EMULATOR=.. (empty on
 # x86-64) for a shell to take, and says on standard error what is used. On another processor it takes
-# Debian's cross compiler and the emulator of the Rattle kit, else qemu-user; what is missing is
-# installed where apt-get and root are there.
+# Debian's cross compiler and qemu-user; what is missing is installed where apt-get and root are there.
 set -eu
 
 need() { # COMMAND PACKAGE..
@@ -22,12 +21,8 @@ if [ "$(uname -m)" = x86_64 ]; then
 else
     compiler=x86_64-linux-gnu-gcc
     need "$compiler" gcc-x86-64-linux-gnu libc6-dev-amd64-cross
-    kit=$(dirname "$(readlink -f "$(command -v rt)")")/..
-    emulator=$(readlink -f "$kit/on/$(uname -m)/toolchain/bin/qemu-x86_64" || true)
-    if [ ! -x "$emulator" ]; then
-        need qemu-x86_64 qemu-user
-        emulator=$(command -v qemu-x86_64)
-    fi
+    need qemu-x86_64 qemu-user
+    emulator=$(command -v qemu-x86_64)
 fi
 echo "boundary: compiled by $compiler, run by ${emulator:-the machine itself}" >&2
 # an emulated 'rep stosb' clears memory byte by byte; without it the C library clears words

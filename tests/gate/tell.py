@@ -4,8 +4,8 @@
 tell.py STEP [--crates NAME..] [--edits] [--then STEP..] -- COMMAND..
 
 --crates says which crates COMMAND proves, with those below them (none named: all), --edits that it
-tries their must-fail edits too, --then which steps follow; from these and the seconds in
-docs/CHECK-TIMES.md comes the estimate of what is left. The whole output goes to
+tries their must-fail edits too, --then which steps follow; from these, the lines of the crates and
+the seconds in docs/CHECK-TIMES.md comes the estimate of what is left. The whole output goes to
 target/gate/STEP.log (gate.sh has it brought there), and of a failure the lines that say why are told.
 """
 
@@ -18,7 +18,7 @@ import time
 from pathlib import Path
 
 from estimate import Estimate, expected_items, roughly, spoken
-from events import ARCHIVED, NOT_TRIED, UNCHANGED, event_of
+from events import KEPT, NOT_TRIED, Reader
 
 ROOT = Path(__file__).resolve().parents[2]
 LOGS = Path(os.environ.get("GATE_LOGS", ROOT / "target" / "gate"))
@@ -31,25 +31,34 @@ class Teller:
 
     def __init__(self, step, estimate, say=print, clock=time.monotonic):
         self.step, self.estimate, self.say, self.clock = step, estimate, say, clock
-        self.began = self.last = clock()
-        self.seen = {}  # for each kind the names told
+        self.began = clock()
+        self.reader = Reader()
+        self.seen = {}  # for each kind the names told, and whether all was well
         self.since = []  # the lines since the last event
-        self.silent = {UNCHANGED: 0, NOT_TRIED: 0}  # crates that are only counted
+        self.silent = {KEPT: 0, NOT_TRIED: 0}  # crates that are only counted
         self.following = False  # whether lines go on saying why the last event failed
 
     def take(self, line):
-        event = event_of(line)
+        event = self.reader.event(line)
         if event is None:
             if "NOT RUN" in line or (self.following and not line.startswith("rt: ")):
                 self.say(why(line))
             else:
                 self.since.append(line)
             return
-        names = self.seen.setdefault(event.kind, [])
-        if event.kind == "test" or event.name not in names or not event.passed:
-            names.append(event.name)
+        if event.kind == "edits":
+            self.estimate.trying(event.name)
+        elif self.is_new(event):
             self.tell(event)
-        self.since, self.last = [], self.clock()
+        self.since = []
+
+    def is_new(self, event):
+        """Whether it is to be told of: what became of a crate or an edit once, and each line that says what a program did wrong."""
+        told, known = self.seen.setdefault(event.kind, []), (event.name, event.passed)
+        if known in told and event.kind != "test" and (event.kind != "run" or event.passed):
+            return False
+        told.append(known)
+        return True
 
     def tell(self, event):
         self.following = False
@@ -57,8 +66,7 @@ class Teller:
         if event.told in self.silent:
             self.silent[event.told] += 1
             return
-        seconds = round(self.clock() - self.last) if event.told == ARCHIVED else event.seconds
-        self.say(", ".join(filter(None, [self.head(event), seconds_told(seconds), self.left(event)])))
+        self.say(", ".join(filter(None, [self.head(event), self.left(event)])))
         if not event.passed:
             self.tell_why(event)
 
@@ -66,9 +74,9 @@ class Teller:
         """Its place among those of its kind, its name, and what became of it."""
         if event.kind == "test":
             return f"{self.step}: {event.name} {event.told}"
-        count = max(self.estimate.total(event.kind), len(self.seen[event.kind]))
+        place = len({name for name, _ in self.seen[event.kind]})
         name = f"edit {event.name}" if event.kind == "edit" else event.name
-        return f"{len(self.seen[event.kind])}/{count} {name} {event.told}"
+        return f"{place}/{max(self.estimate.total(event.kind), place)} {name} {event.told}"
 
     def left(self, event):
         left = self.estimate.left(self.clock() - self.began) if event.kind != "test" else 0
@@ -85,7 +93,7 @@ class Teller:
         """The last line of the step; where it failed, first what was said since the last event."""
         took = spoken(round(self.clock() - self.began))
         if status == 0:
-            known = f" ({self.silent[UNCHANGED]} crates unchanged since they were proved)" if self.silent[UNCHANGED] else ""
+            known = f" ({self.silent[KEPT]} crates kept from earlier runs)" if self.silent[KEPT] else ""
             self.say(f"{self.step}: passed, {took}{known}")
             return
         if status == STOPPED:
@@ -101,10 +109,6 @@ def why(line):
     """A line that says why, without the path of the checkout and not too long."""
     line = line.replace(f"{ROOT}/", "")
     return "    " + (line if len(line) <= WIDEST else line[:WIDEST] + " ..")
-
-
-def seconds_told(seconds):
-    return "" if seconds is None else f"{seconds} s"
 
 
 def run(command, teller, log):

@@ -19,12 +19,6 @@ TIMES = """# Seconds
 |---|---|
 | proofs | 30 |
 | desk | 60 |
-
-| crate | seconds | code |
-|---|---|---|
-| words | 10 | 1 |
-| plan | 20 | 2 |
-| show | 30 | 3 |
 """
 
 
@@ -39,15 +33,19 @@ class Clock:
 
 
 class InRepository(unittest.TestCase):
-    """A small repository: a library, one above it with an edit, a program above both."""
+    """A small repository: a library, a static one above it with an edit, a program above both; of 10, 20 and 30 lines."""
 
     def setUp(self):
         self.root = Path(tempfile.mkdtemp())
         self.addCleanup(shutil.rmtree, self.root)
         self.write("docs/CHECK-TIMES.md", TIMES)
-        self.write("crates.txt", "# three\nwords:\nplan: words\nshow: plan io # a program\n")
+        self.write("crates.txt", "# three\nwords:\nplan staticlib: words\nshow: plan io # a program\n")
+        self.write("crates/words/src/lib.rt", "\n" * 10)
+        self.write("crates/plan/src/lib.rt", "\n" * 5)
+        self.write("crates/plan/specs/Lib.antt", "\n" * 5)
+        self.write("crates/plan/proofs/f/Answers.antt", "\n" * 10)
         self.write("crates/plan/must-fail/other.edit", "")
-        self.write("crates/show/src/main.rt", "")
+        self.write("crates/show/src/main.rt", "\n" * 30)
 
     def write(self, path, text, mode=0o644):
         file = self.root / path
@@ -68,47 +66,67 @@ class Telling(InRepository):
             self.teller.take(line)
         return self.told
 
-    def test_a_proved_crate_has_its_place_seconds_and_what_is_left(self):
+    def test_a_proved_crate_has_its_place_and_what_is_left(self):
         self.clock.now = 200
-        told = self.tell("fn words::u16_at: proved", "library std: modules loaded=0", "rt: words proved (11 s)")
-        self.assertEqual(told, ["1/3 words proved, 11 s, about 2 min left"])
+        told = self.tell("== words", "fn words::u16_at: proved", "statements std: modules loaded=0 checked=0", "logic=proved functions=1", "rt: words proved")
+        self.assertEqual(told, ["1/3 words proved, about 2 min left"])
 
     def test_an_edit_and_a_program_have_places_of_their_own(self):
         told = self.tell(
-            "rt: must-fail plan/other: refused, as it must be (first at proofs/f/Proof.antt:1:2; 7 s)",
-            "rt: show ran as nobody, and wrote what its file 'stdout' has (0 s)",
+            "rt: must-fail plan/other.edit: refused, as it must be: ./proofs/f/Answers.antt:1:2: error: `returns`: no",
+            "rt: show ran, and wrote what its file stdout has",
+            "rt: show ran (built by Rattle's own compiler), and wrote what its file stdout has",
         )
-        self.assertEqual([line.split(", about")[0] for line in told], ["1/1 edit plan/other refused, 7 s", "1/1 show ran, 0 s"])
+        self.assertEqual([line.split(", about")[0] for line in told], ["1/1 edit plan/other refused", "1/1 show ran"])
+
+    def test_an_edit_that_is_refused_for_little_is_told_so(self):
+        little = "(only because a proof file names what the edit took away, so this says little)"
+        told = self.tell(f"rt: must-fail plan/other.edit: refused, as it must be {little}: ./proofs/f/Answers.antt:1:2: error: no field")
+        self.assertTrue(told[0].startswith("1/1 edit plan/other refused, only because a proof file names what the edit took away"), told)
 
     def test_of_a_crate_that_is_not_proved_the_errors_are_told(self):
-        told = self.tell("a.antt:3:1: note: no matter", "a.antt:3:1: error: no proof", "logic=not-proved", "rt: plan NOT PROVED (exit 1, 4 s)")
-        self.assertTrue(told[0].startswith("1/3 plan NOT PROVED, 4 s"), told)
+        told = self.tell("a.antt:3:1: note: no matter", "a.antt:3:1: error: no proof", "logic=not-proved", "rt: plan NOT PROVED")
+        self.assertTrue(told[0].startswith("1/3 plan NOT PROVED"), told)
         self.assertEqual(told[1:], ["    a.antt:3:1: error: no proof"])
 
     def test_crates_above_one_that_failed_are_counted(self):
-        told = self.tell(*[f"rt: {name} NOT PROVED: its dependency words is not proved" for name in ("plan", "show")])
+        told = self.tell("rt: plan NOT PROVED: its library words failed", "show: not run, since words failed")
         self.assertEqual(told, [])
         self.teller.end(1)
         self.assertEqual(told, ["proofs: FAILED, 0 s (2 crates above not tried); the whole output is in target/gate/proofs.log"])
 
-    def test_of_another_crate_that_was_not_tried_the_reason_is_told(self):
-        told = self.tell("rt: show NOT PROVED: it has neither src/lib.rt nor src/main.rt")
-        self.assertTrue(told[0].startswith("1/3 show NOT PROVED: it has neither src/lib.rt nor src/main.rt"), told)
+    def test_tests_of_a_crate_that_are_not_proved_are_told(self):
+        told = self.tell("rt: show proved", "rt: show: its tests are NOT PROVED")
+        self.assertTrue(told[1].startswith("1/3 show tests are NOT PROVED"), told)
 
     def test_of_an_edit_that_failed_what_follows_is_told(self):
-        told = self.tell("rt: must-fail plan/other: BAD EDIT: it did not reach the prover (exit 1)", "a.rt:1:1: error: no sense", "rt: FAILED: plan/other")
+        told = self.tell("rt: must-fail plan/other.edit: BAD EDIT: it did not reach the prover", "a.rt:1:1: error: no sense", "rt: FAILED: plan/other.edit")
         self.assertEqual(told[1:], ["    a.rt:1:1: error: no sense"])
 
-    def test_of_a_program_that_failed_the_lines_before_are_told(self):
-        told = self.tell("rt: show: what the program wrote is not it", "rt: show proved, and its run FAILED (0 s)")
-        self.assertEqual(told[1:], ["    rt: show: what the program wrote is not it"])
+    def test_each_fault_of_a_program_is_told(self):
+        told = self.tell(
+            "rt: show: the program ended with status 1, and not 0; it said: ",
+            "rt: show (built by Rattle's own compiler; the LLVM build passed): what the program wrote, out/stdout, is not it",
+        )
+        self.assertTrue(told[0].startswith("1/1 show the program ended with status 1"), told)
+        self.assertTrue(told[1].startswith("1/1 show what the program wrote, out/stdout, is not it"), told)
 
-    def test_unchanged_crates_are_told_of_once_at_the_end(self):
-        told = self.tell(*[f"rt: {name} proved (unchanged since it was last proved)" for name in ("words", "plan", "words")])
+    def test_a_check_that_keeps_its_work_is_told_of_by_its_verdict(self):
+        self.tell("rt: chose --jobs 2 for words", "crate words: modules loaded=3 checked=2", "axioms std: none", "logic=proved functions=1")
+        told = self.tell("a.antt:3:1: error: no proof", "crate plan: modules loaded=0 checked=5", "logic=not-proved")
+        self.assertEqual([line.split(", about")[0] for line in told], ["1/3 words proved", "2/3 plan NOT PROVED", "    a.antt:3:1: error: no proof"])
+
+    def test_the_summary_of_a_check_of_all_tells_nothing_twice(self):
+        self.tell("crate plan: modules loaded=0 checked=5", "logic=not-proved")
+        told = self.tell("== summary", "words: ok", "plan: failed (1)", "show: failed (2)")
+        self.assertEqual([line.split(", about")[0] for line in told if line.startswith(("1", "2", "3"))], ["1/3 plan NOT PROVED", "3/3 show failed (2)"])
+
+    def test_kept_crates_are_told_of_once_at_the_end(self):
+        told = self.tell("rt: words is kept: an earlier run proved the same", "plan: ok", "crate words: modules loaded=3 checked=0", "logic=proved functions=1")
         self.assertEqual(told, [])
         self.clock.now = 61
         self.teller.end(0)
-        self.assertEqual(told, ["proofs: passed, 1 min 1 s (2 crates unchanged since they were proved)"])
+        self.assertEqual(told, ["proofs: passed, 1 min 1 s (2 crates kept from earlier runs)"])
 
     def test_each_test_has_a_line(self):
         told = self.tell("test src/store.rs - Store::admit (line 3) ... ok", "test_empty (tests.test_calls.Calls.test_empty) ... skipped 'no dot'", "test other ... FAILED")
@@ -132,17 +150,35 @@ class Estimating(InRepository):
         self.assertEqual(items[3:], [("edit", "plan/other"), ("run", "show")])
 
     def test_what_is_left_falls_and_follows_the_pace(self):
-        # 81 seconds of crates, edits and a run took 30 seconds of the clock
+        # 60 lines of crates, and 4 for an edit, took 30 seconds of the clock
         estimate = Estimate(self.root, expected_items(self.root, [], True), ["desk"])
         self.assertAlmostEqual(estimate.left(0), 90)
-        estimate.done("crate", "show", True)
-        self.assertAlmostEqual(estimate.left(30 * 30 / 81), 60 + 30 * 51 / 81)
+        estimate.done("crate", "words", True)
+        self.assertAlmostEqual(estimate.left(30 * 10 / 64), 60 + 30 * 54 / 64)
         self.assertGreater(estimate.left(100), 100)
 
-    def test_unchanged_crates_say_nothing_of_the_pace(self):
-        estimate = Estimate(self.root, expected_items(self.root, ["plan"], False))
-        estimate.done("crate", "words", False)
-        self.assertAlmostEqual(estimate.left(0), 20 * 30 / 81)
+    def test_those_below_a_crate_that_is_told_of_are_done(self):
+        estimate = Estimate(self.root, expected_items(self.root, [], False))
+        estimate.done("crate", "plan", True)
+        self.assertAlmostEqual(estimate.left(30 * 20 / 64), 30 * 30 / 64)
+
+    def test_kept_crates_say_nothing_of_the_pace_and_take_their_edits_off(self):
+        estimate = Estimate(self.root, expected_items(self.root, [], True))
+        estimate.done("crate", "plan", False)
+        self.assertAlmostEqual(estimate.left(0), 30 * 30 / 64)
+
+    def test_edits_are_done_when_those_of_the_next_crate_are_begun(self):
+        estimate = Estimate(self.root, expected_items(self.root, [], True))
+        estimate.trying("plan")
+        self.assertAlmostEqual(estimate.left(0), 30)
+        estimate.trying("show")
+        self.assertAlmostEqual(estimate.left(30 * 4 / 64), 30 * 60 / 64)
+
+    def test_edits_are_done_when_the_first_is_told_of(self):
+        self.write("crates/plan/must-fail/third.edit", "")
+        estimate = Estimate(self.root, expected_items(self.root, [], True))
+        estimate.done("edit", "plan/other", True)
+        self.assertAlmostEqual(estimate.left(30 * 4 / 68), 30 * 60 / 68)
 
     def test_times_are_spoken(self):
         self.assertEqual([spoken(59), spoken(61)], ["59 s", "1 min 1 s"])
@@ -152,16 +188,20 @@ class Estimating(InRepository):
 class Times(InRepository):
     def logs(self, name, proofs):
         self.write(f"{name}/proofs.log", proofs)
-        self.write(f"{name}/seconds.txt", "gate: 99\ngate: 75\n")
+        self.write(f"{name}/seconds.txt", "proofs: 60\ngate: 99\ngate: 75\n")
         return self.root / name
 
-    def test_a_note_has_the_whole_and_the_crates_that_changed(self):
-        before = self.logs("before", "rt: words proved (11 s)\n")
-        edits = "".join(f"rt: must-fail words/{edit}: refused, as it must be ({edit} s)\n" for edit in (3, 4))
-        after = self.logs("after", "rt: words proved (9 s)\nrt: plan proved (5 s)\n" + edits)
+    def test_a_note_has_the_whole_and_how_much_was_done(self):
+        before = self.logs("before", "rt: ok; handles allowed: none; every proof and must-fail edit was done in this run\n")
+        edits = "must-fail edits: 5 refused; done in this run: 1 of the 4 proofs (of crates and of their tests) and 2 of the 5 must-fail edits"
+        after = self.logs("after", f"rt: ok; handles allowed: none; {edits}; the others are kept\n")
         self.assertEqual(
-            compared(before, after, ["words", "plan"])[2:],
-            ["| whole `make test` | 1 min 15 s |  | 1 min 15 s |  |", "| words | 11 s |  | 9 s | 7 s |", "| plan |  |  | 5 s |  |"],
+            compared(before, after)[2:],
+            [
+                "| whole `make test` | 1 min 15 s | 1 min 15 s |",
+                "| `rt ci` | 1 min 0 s | 1 min 0 s |",
+                "| done in the run | all | 1 of the 4 proofs and 2 of the 5 must-fail edits |",
+            ],
         )
 
     def test_a_table_takes_the_place_of_the_one_before(self):
@@ -177,22 +217,26 @@ class Times(InRepository):
 FAKE_RT = """#!/bin/sh
 case $1 in
 version) echo kit ;;
-fmt) [ "$FAILS" != format ] ;;
 ci)
-    rm -rf target
-    mkdir target
-    echo 'rt: words proved (1 s)'
+    [ "$#" = 1 ] || exit 2
+    echo 'rt: words proved'
     [ "$FAILS" != proofs ] || { echo '1 passed, 1 failed'; exit 1; }
     [ "$FAILS" != nothing-but-waits ] || sleep 60
+    [ "$FAILS" != bad-edit ] || bad=', 1 bad'
+    [ "$FAILS" = unsaid ] || echo "rt: ok; handles allowed: none; must-fail edits: 1 refused$bad; every proof was done"
     echo '2 passed, 0 failed'
     ;;
 esac
 """
 FAKE_MAKE = """#!/bin/sh
 for target; do :; done
-echo "made $target"
+echo "test $target ... ok"
 [ "$FAILS-$target" != nothing-but-waits-reading ] || sleep 60
 [ "$FAILS" != "$target" ]
+"""
+FAKE_LIBRARY = """#!/bin/sh
+echo "of ci: $*"
+[ "$FAILS" != library ]
 """
 FAKE_CONTRACTS = """#!/bin/sh
 [ "$FAILS" != contracts ]
@@ -207,6 +251,7 @@ class LastLine(InRepository):
         self.write("bin/rt", FAKE_RT, 0o755)
         self.write("bin/make", FAKE_MAKE, 0o755)
         self.write("tests/contracts.sh", FAKE_CONTRACTS, 0o755)
+        self.write("lib/here.sh", FAKE_LIBRARY, 0o755)
         path = f"{self.root / 'bin'}:{os.environ['PATH']}"
         return subprocess.Popen(
             [self.root / "tests/gate/gate.sh"],
@@ -229,9 +274,16 @@ class LastLine(InRepository):
         self.assertEqual([line for line in lines if "passed, 0 failed" in line], ["2 passed, 0 failed"])
         self.assertEqual(lines[-1], "2 passed, 0 failed")
         self.assertIn("rt: words proved", (self.root / "target/gate/proofs.log").read_text())
+        self.assertEqual((self.root / "target/gate/library.log").read_text(), "of ci: --proved\n")
+
+    def test_the_library_is_not_of_what_earlier_checks_left(self):
+        self.write("crates/words/out/rlib/words.rlib/format", "")
+        self.gate("nothing")
+        self.assertEqual((self.root / "target/gate/library.log").read_text(), "of ci: \n")
 
     def test_it_does_not_come_where_anything_fails(self):
-        for step in ("kit", "format", "contracts", "telling", "reading", "proofs", "lib", "programs", "boundary", "desk", "wasm-test", "board-test"):
+        proofs = ("proofs", "unsaid", "bad-edit")
+        for step in ("kit", "layout", "contracts", "telling", "reading", *proofs, "library", "programs", "boundary", "desk", "wasm-test", "board-test"):
             with self.subTest(step):
                 shutil.rmtree(self.root / "tests", ignore_errors=True)
                 status, lines = self.gate(step)
@@ -240,9 +292,11 @@ class LastLine(InRepository):
 
     def test_it_does_not_come_after_an_interrupt_and_the_logs_stay(self):
         started = self.start("nothing-but-waits")
-        for line in iter(started.stdout.readline, ""):
-            if "words proved" in line:
-                break
+        awaited = {"words proved", "reading ok"}
+        while awaited:
+            line = started.stdout.readline()
+            self.assertTrue(line, awaited)
+            awaited = {each for each in awaited if each not in line}
         os.killpg(started.pid, signal.SIGINT)
         output, _ = started.communicate(timeout=30)
         self.assertEqual(started.returncode, 130)

@@ -1,20 +1,19 @@
 #!/usr/bin/env python3
 """The seconds of a whole `make test`, from what it left in target/gate.
 
-times.py                         writes them into the tables of docs/CHECK-TIMES.md
-times.py BEFORE AFTER CRATE..    prints what a note in docs/changes says of these crates: BEFORE and
-                                 AFTER are target/gate as two runs on one machine left it
+times.py                writes them into the table of docs/CHECK-TIMES.md
+times.py BEFORE AFTER   prints what a note in docs/changes says: BEFORE and AFTER are target/gate as two
+                        runs on one machine left it
 """
 
+import re
 import sys
 from pathlib import Path
 
-from estimate import dependencies, spoken
-from events import event_of
+from estimate import spoken
 
 ROOT = Path(__file__).resolve().parents[2]
 PAGE = ROOT / "docs" / "CHECK-TIMES.md"
-CRATES = ["crate", "seconds", "its edits", "code", "definitions and laws (specs/)", "proofs"]
 STEPS = ["step", "seconds", "what it does"]
 WORDS = {
     "format": "the layout of the code",
@@ -32,48 +31,22 @@ WORDS = {
 }
 
 
-def seconds_in(logs):
-    """Of each crate the seconds of its proof, and of its edits together."""
-    crates, edits = {}, {}
-    for line in (logs / "proofs.log").read_text(encoding="utf-8").splitlines():
-        event = event_of(line)
-        if event and event.kind == "crate" and event.seconds is not None:
-            crates[event.name] = event.seconds
-        elif event and event.kind == "edit" and event.seconds is not None:
-            crate = event.name.split("/")[0]
-            edits[crate] = edits.get(crate, 0) + event.seconds
-    return crates, edits
-
-
 def steps_in(logs):
     """The seconds of each step, the last run of it."""
     lines = (logs / "seconds.txt").read_text(encoding="utf-8").splitlines()
     return {step: int(seconds) for step, seconds in (line.split(": ") for line in lines)}
 
 
-def lines_in(folder, pattern, comment):
-    """Lines without blanks and comments."""
-    lines = (line.strip() for file in folder.rglob(pattern) for line in file.read_text(encoding="utf-8").splitlines())
-    return sum(1 for line in lines if line and not line.startswith(comment))
+def new_in(logs):
+    """How many of the proofs and must-fail edits rt ci did in this run; the others were kept from earlier ones."""
+    text = (logs / "proofs.log").read_text(encoding="utf-8")
+    found = re.search(r"^rt: ok;.* done in this run: (\d+ of the \d+ proofs).*?( and \d+ of the \d+ must-fail edits)?;", text, re.MULTILINE)
+    return found[1] + (found[2] or "") if found else "all"
 
 
 def table(heading, rows):
     lines = [heading, ["---"] * len(heading)] + rows
     return ["| " + " | ".join(map(str, cells)) + " |" for cells in lines]
-
-
-def crate_table(logs):
-    crates, edits = seconds_in(logs)
-    rows = []
-    for crate in dependencies(ROOT):
-        folder = ROOT / "crates" / crate
-        sizes = [lines_in(folder / "src", "*.rt", "//"), lines_in(folder / "specs", "*.antt", "--"), lines_in(folder / "proofs", "*.antt", "--")]
-        rows.append([crate, crates[crate], edits.get(crate, ""), *sizes])
-    return table(CRATES, rows)
-
-
-def step_table(logs):
-    return table(STEPS, [[step, seconds, WORDS.get(step, "")] for step, seconds in steps_in(logs).items()])
 
 
 def put_table(lines, new):
@@ -89,26 +62,24 @@ def put_table(lines, new):
 
 
 def write_page():
-    logs = ROOT / "target" / "gate"
+    steps = steps_in(ROOT / "target" / "gate")
     lines = PAGE.read_text(encoding="utf-8").splitlines()
-    for new in (step_table(logs), crate_table(logs)):
-        lines = put_table(lines, new)
+    lines = put_table(lines, table(STEPS, [[step, seconds, WORDS.get(step, "")] for step, seconds in steps.items()]))
     PAGE.write_text("\n".join(lines) + "\n", encoding="utf-8")
 
 
-def compared(before, after, crates):
-    """What a note says: the whole, and these crates; one that was not there has no seconds."""
-    whole = [part for logs in (before, after) for part in (spoken(steps_in(logs)["gate"]), "")]
-    rows = [["whole `make test`", *whole]]
-    sides = [side for logs in (before, after) for side in seconds_in(logs)]
-    rows += [[crate, *(f"{side[crate]} s" if crate in side else "" for side in sides)] for crate in crates]
-    return table(["", "before", "its edits", "after", "its edits"], rows)
+def compared(before, after):
+    """What a note says: the whole, rt ci, and how much of it was done in the run."""
+    sides = [before, after]
+    rows = [[what, *(spoken(steps_in(logs)[step]) for logs in sides)] for what, step in (("whole `make test`", "gate"), ("`rt ci`", "proofs"))]
+    rows.append(["done in the run", *map(new_in, sides)])
+    return table(["", "before", "after"], rows)
 
 
 if __name__ == "__main__":
     if len(sys.argv) == 1:
         write_page()
-    elif len(sys.argv) > 3:
-        print("\n".join(compared(Path(sys.argv[1]), Path(sys.argv[2]), sys.argv[3:])))
+    elif len(sys.argv) == 3:
+        print("\n".join(compared(Path(sys.argv[1]), Path(sys.argv[2]))))
     else:
         sys.exit(__doc__)

@@ -15,32 +15,42 @@ INTRODUCTION = """# Every public function, and its contract
 
 Made from the code by `tests/contracts.sh --write`; `make test` fails where it is not what the code says, or where a public function has no `ensures`.
 
-In a contract the name of a parameter stands for what was lent: the list of its bytes or words as the call begins. With a ′ it is what is left there as the function returns. `r` is the result. A function without `requires` takes any input. The definitions that a contract names stand in the files listed below it; what a contract leaves open is in [EXCEPTIONS.md](EXCEPTIONS.md).
+In a contract the name of a parameter stands for what was lent: the list of its bytes or words as the call begins. With a ′ it is what is left there as the function returns. Where a function has several promises of a kind, each has a name before a colon. A function without `requires` takes any input. The definitions that a contract names stand in the files listed below it; what a contract leaves open is in [EXCEPTIONS.md](EXCEPTIONS.md).
 """
 
 FUNCTION = re.compile(
-    r"(?P<comment>(?:^//.*\n)*)(?:^#\[no_mangle\]\n)?"
-    r'^pub (?:extern "C" )?fn (?P<name>\w+)(?:<[^>]*>)?\((?P<parameters>[^)]*)\)(?P<result> -> [^\n{]+?)?'
-    r"(?P<contract>(?:\n    (?:requires|ensures) .*)*)(?: \{|\n\{)$",
+    r"(?P<comment>(?:^//.*\n)*)(?:^#\[(?:[^\]]|\](?!\n))*\]\n)*"
+    r'^pub (?:extern "C" )?fn (?P<name>\w+)(?:<[^>]*>)?\((?P<parameters>(?:[^()]|\([^()]*\))*)\)(?P<result> -> [^\n{]+?)?'
+    r"(?P<contract>(?:\n    (?:requires|ensures)\b.*(?:\n     .*)*)*)(?: \{|\n\{)$",
     re.MULTILINE,
 )
-PROVIDED = re.compile(r"^ghost use Rattle·(\w+?)(?:·specs)?\.specs\.(\w+)\.\{([^}]*)\};", re.MULTILINE)
+CLAUSE = re.compile(r"^    (requires|ensures)( \w+)? \{ (.*) \}$")
+PROVIDED = re.compile(r"^ghost use Rattle\.(\w+)\.specs\.([\w.]+)\.\{([^}]*)\};", re.MULTILINE)
+WORD = re.compile(r"[\w'-]+")
 
 
 class Function(NamedTuple):
     name: str
     comment: str
     signature: str
-    contract: list  # (requires or ensures, the term) as they stand
+    contract: list  # (requires or ensures, the term) in words of the page
     seen: bool  # whether other crates can name it
 
 
 def plain(term):
     """A term of a contract in words of the page: names for what is lent, names with ′ for what is left."""
-    term = re.sub(r"^\{ (?:λ \w+\. )?⌜ (.*) ⌝ \}$", r"\1", term)
-    term = re.sub(r"\(now \((\w+) \.entry\)\)|\bnow \((\w+) \.entry\)", lambda m: m[1] or m[2], term)
-    term = re.sub(r"\(now \((\w+) \.exit\)\)|\bnow \((\w+) \.exit\)", lambda m: f"{m[1] or m[2]}′", term)
-    return re.sub(r"\(now (\w+)\)|\bnow (\w+)", lambda m: m[1] or m[2], term)
+    term = re.sub(r"\b(\w+)\.(?:now|old)\b", r"\1", term)
+    return re.sub(r"\b(\w+)\.new\b", r"\1′", term)
+
+
+def clauses_of(contract):
+    """The clauses of a contract; one may stand in several lines, and may have a name."""
+    for clause in re.sub(r"\n     +", " ", contract).splitlines()[1:]:
+        found = CLAUSE.match(clause)
+        if not found:
+            sys.exit(f"a clause stands in a form that tests/pages/contracts.py cannot read: {clause}")
+        name = f"{found[2].strip()}: " if found[2] else ""
+        yield found[1], name + plain(found[3])
 
 
 def functions_of(file, exported):
@@ -51,7 +61,7 @@ def functions_of(file, exported):
         sys.exit(f"{file.relative_to(ROOT)}: a public function stands in a form that tests/pages/contracts.py cannot read")
     for found in FUNCTION.finditer(text):
         parameters = ", ".join(re.sub(r",\s*$", "", found["parameters"].strip()).split(",\n    "))
-        contract = re.findall(r"(requires|ensures) (.*)", found["contract"])
+        contract = list(clauses_of(found["contract"]))
         comment = " ".join(line[3:] for line in found["comment"].splitlines())
         seen = file.name == "lib.rt" or found["name"] in exported
         yield Function(found["name"], comment, f"{found['name']}({parameters}){found['result'] or ''}", contract, seen)
@@ -59,9 +69,11 @@ def functions_of(file, exported):
 
 def definitions_of(text, functions):
     """Which names of these contracts come from which files: {(crate, file): names}."""
-    said = set(re.findall(r"[\w-]+", " ".join(term for function in functions for _, term in function.contract)))
+    said = set(WORD.findall(" ".join(term for function in functions for _, term in function.contract)))
     places = {}
     for crate, file, names in PROVIDED.findall(text):
+        if file == "Prelude":
+            continue  # the kit's plain words, in every contract
         cited = {name.strip() for name in names.split(",")} & said
         if cited:
             places.setdefault((crate, file), set()).update(cited)
@@ -74,7 +86,7 @@ def told(function):
     if not function.seen:
         lines.append("// (inside this crate alone)")
     lines.append(function.signature)
-    lines += [f"    {word} {plain(term)}" for word, term in function.contract]
+    lines += [f"    {word} {term}" for word, term in function.contract]
     return "\n".join(lines)
 
 
@@ -82,7 +94,7 @@ def section(folder):
     """The page's section of a crate, and its functions."""
     files = [folder / "src" / "lib.rt"] + sorted(file for file in (folder / "src").glob("*.rt") if file.name != "lib.rt")
     root = files[0].read_text(encoding="utf-8")
-    exported = re.findall(r"^pub use \w+::(\w+);", root, re.MULTILINE)
+    exported = re.findall(r"\w+", " ".join(re.findall(r"^pub use \w+::([^;]+);", root, re.MULTILINE)))
     functions = [function for file in files for function in functions_of(file, exported)]
     if not functions:
         return "", []

@@ -33,7 +33,8 @@ def words_of(path):
 def places(crate, path):
     """The files that crate/path may be."""
     folder = ROOT / "crates" / crate
-    tries = [folder / part / f"{path}.antt" for part in ("specs", "proofs", ".")] + [folder / path / "Proof.antt"]
+    tries = [folder / part / f"{path}.antt" for part in ("specs", "proofs", ".")]
+    tries += [folder / path / f"{kind}.antt" for kind in ("Answers", "Invariants", "Proof")]
     tries += [folder / f"{path}.rt", folder / "must-fail" / f"{path}.edit", ROOT / crate / path]
     return [file for file in tries if file.exists()]
 

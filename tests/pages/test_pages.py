@@ -11,10 +11,13 @@ import laws
 import names
 
 SOURCE = """// Planning.
+#![tactic(auto)]
+
 mod inner;
-pub use inner::shown;
-ghost use Rattle·io.specs.Counts.{Given, other};
-ghost use Rattle·plan·specs.specs.Plans.{planOutcome, told};
+pub use inner::{other, shown};
+ghost use Rattle.std.specs.Prelude.{◌≡◌, length};
+ghost use Rattle.io.specs.Counts.{Given, other};
+ghost use Rattle.plan.specs.Plans.{plan_outcome, told};
 
 // A step inside.
 fn step(x: u32) -> u32 {
@@ -22,19 +25,25 @@ fn step(x: u32) -> u32 {
 }
 
 // Plans, for any bytes.
+#[unsafe(no_mangle)]
+#[tactic(auto, using(crate::proofs::Plans::told),
+    unfolding(crate::specs::Plans::plan_outcome))]
 pub fn plan<'a>(
     s: &'a [u8],
+    made: &(impl Files + Print),
     room: &mut [u32],
 ) -> u32
-    requires { ⌜ Given (now s) ⌝ }
-    ensures { λ r. ⌜ told r (now (room .exit)) ≡ planOutcome (now (s .entry)) (now (room .entry)) ⌝ }
+    requires { Given s.now }
+    ensures number { told result room.new
+        ≡ plan_outcome s.now room.old }
+    ensures room { length room.new ≡ length room.old }
 {
     step(0)
 }
 """
 INNER = """// Named from outside.
 pub fn shown() -> u32
-    ensures { λ r. ⌜ r ≡ 1 ⌝ }
+    ensures { result ≡ 1 }
 {
     1
 }
@@ -84,15 +93,17 @@ class Contracts(Checkout):
     def test_a_contract_stands_in_the_words_of_the_page(self):
         text, _ = contracts.section(self.root / "crates" / "plan")
         self.assertIn(
-            "// Plans, for any bytes.\nplan(s: &'a [u8], room: &mut [u32]) -> u32\n"
-            "    requires Given s\n    ensures told r room′ ≡ planOutcome s room\n",
+            "// Plans, for any bytes.\nplan(s: &'a [u8], made: &(impl Files + Print), room: &mut [u32]) -> u32\n"
+            "    requires Given s\n    ensures number: told result room′ ≡ plan_outcome s room\n"
+            "    ensures room: length room′ ≡ length room\n",
             text,
         )
 
     def test_the_files_of_definitions_are_named(self):
         self.write("crates/plan/specs/Plans.antt", "")
         text, _ = contracts.section(self.root / "crates" / "plan")
-        self.assertIn("- io/Counts of the kit: `Given`\n- [plan/Plans](../crates/plan/specs/Plans.antt): `planOutcome`, `told`\n", text)
+        self.assertIn("- io/Counts of the kit: `Given`\n- [plan/Plans](../crates/plan/specs/Plans.antt): `plan_outcome`, `told`\n", text)
+        self.assertNotIn("Prelude", text)
 
     def test_functions_inside_a_crate_are_marked_and_private_ones_left_out(self):
         text, functions = contracts.section(self.root / "crates" / "plan")
@@ -101,6 +112,11 @@ class Contracts(Checkout):
 
     def test_a_form_that_cannot_be_read_is_an_error(self):
         self.write("crates/plan/src/inner.rt", "impl S {\n    pub fn odd(self) -> u32 {\n    }\n}\n")
+        with self.assertRaises(SystemExit):
+            contracts.section(self.root / "crates" / "plan")
+
+    def test_a_clause_that_cannot_be_read_is_an_error(self):
+        self.write("crates/plan/src/inner.rt", INNER.replace("{ result ≡ 1 }", "{ result ≡ 1"))
         with self.assertRaises(SystemExit):
             contracts.section(self.root / "crates" / "plan")
 
