@@ -92,6 +92,13 @@ class Page(unittest.TestCase):
     def rows(self):
         return self.browser.run(ROWS)
 
+    def assert_soon(self, what, wanted):
+        """Holds it to what comes of a touch or a key, whose click may follow a moment after it."""
+        try:
+            self.browser.until(lambda: what() == wanted, "")
+        except AssertionError:
+            self.assertEqual(what(), wanted)
+
 
 class Touch(Page):
     def test_a_first_visit_shows_the_small_world_admitted_and_its_bound(self):
@@ -108,7 +115,7 @@ class Touch(Page):
         self.assert_text("#t", "2")
         self.drag(self.browser.middle(HANDLE.format(0)), self.place(0.75, 0.3))
         self.choose_label("format")
-        self.assertEqual(self.state()["edges"], [[0, 1]])
+        self.assert_soon(lambda: self.state()["edges"], [[0, 1]])
         self.assert_text("#t", "6")
         self.add_by_touch("field", 0.75, 0.75)
         self.assert_text("#t", "Not covered")
@@ -118,7 +125,7 @@ class Touch(Page):
         Select(self.browser.wait("#operator-0")).select_by_visible_text("=")
         self.tap("#constant-0")
         self.browser.keys("2", Keys.TAB)
-        self.assertEqual(self.state()["nodes"][0]["conditions"], [{"operator": "=", "constant": 2}])
+        self.assert_soon(lambda: self.state()["nodes"][0]["conditions"], [{"operator": "=", "constant": 2}])
         self.tap("#list")
         self.assert_text("#summary", "1 match")
         self.assertEqual(self.rows(), [["german", "comma", "weight"]])
@@ -131,15 +138,15 @@ class Touch(Page):
         self.assertEqual(moved["nodes"][1:], before["nodes"][1:])
         self.tap(NODE.format(1) + " .box")
         self.tap("#remove")
-        self.assertEqual((self.names(), self.state()["edges"]), (["place", "field", "screen"], [[2, 1]]))
+        self.assert_soon(lambda: (self.names(), self.state()["edges"]), (["place", "field", "screen"], [[2, 1]]))
         self.assert_text("#t", "Not covered")
         self.tap("#undo")
-        self.assertEqual(self.state(), moved)
+        self.assert_soon(lambda: self.state(), moved)
         self.tap("#redo")
-        self.assertEqual(self.names(), ["place", "field", "screen"])
+        self.assert_soon(lambda: self.names(), ["place", "field", "screen"])
         self.tap("#undo")
         self.tap("#undo")
-        self.assertEqual(self.state()["edges"], before["edges"])
+        self.assert_soon(lambda: self.state()["edges"], before["edges"])
         self.assertTrue(self.browser.all("#undo[disabled]"))
 
 
@@ -148,11 +155,11 @@ class Drawing(Page):
         self.browser.run("document.querySelector('[data-key=\"edge 0\"]').focus()")
         self.browser.keys(Keys.ENTER)
         self.tap("#turn")
-        self.assertEqual(self.state()["edges"][0], [1, 0])
+        self.assert_soon(lambda: self.state()["edges"][0], [1, 0])
         self.tap("#list")
         self.assert_text("#summary", "no match; 8 entries read of at most 38")
         self.tap("#remove")
-        self.assertEqual(self.state()["edges"], [[2, 1], [3, 2]])
+        self.assert_soon(lambda: self.state()["edges"], [[2, 1], [3, 2]])
 
     def test_a_pattern_is_drawn_by_keys_alone(self):
         browser = self.browser
@@ -164,13 +171,13 @@ class Drawing(Page):
             for _ in range(turns):
                 browser.keys(Keys.TAB)
             browser.keys(Keys.ENTER)
-        self.assertEqual(self.names(), ["locale", "format"])
+        self.assert_soon(lambda: self.names(), ["locale", "format"])
         browser.run("document.querySelector('[data-key=\"node 0\"]').focus()")
         browser.keys("c")
         self.assert_text("#hint", "Now the node that the arrow from locale goes to.")
         browser.keys(Keys.TAB)
         browser.keys(Keys.ENTER)
-        self.assertEqual(self.state()["edges"], [[0, 1]])
+        self.assert_soon(lambda: self.state()["edges"], [[0, 1]])
         browser.run("document.querySelector('[data-key=\"node 1\"]').focus()")
         x = self.state()["nodes"][1]["x"]
         browser.keys(Keys.ARROW_RIGHT, Keys.ARROW_RIGHT)
@@ -179,15 +186,15 @@ class Drawing(Page):
         self.assertEqual(browser.run("return document.activeElement.id"), "node-name")
         browser.keys(Keys.CONTROL, "a")
         browser.keys("sign", Keys.TAB)
-        self.assertEqual(self.names(), ["locale", "sign"])
+        self.assert_soon(lambda: self.names(), ["locale", "sign"])
         browser.keys(Keys.ESCAPE)
         browser.keys(Keys.CONTROL, Keys.ENTER)
         self.assert_text("#summary", "2 matches; 6 entries read of at most 6")
         browser.run("document.querySelector('[data-key=\"node 1\"]').focus()")
         browser.keys(Keys.DELETE)
-        self.assertEqual(self.names(), ["locale"])
+        self.assert_soon(lambda: self.names(), ["locale"])
         browser.keys(Keys.CONTROL, "z")
-        self.assertEqual(self.names(), ["locale", "sign"])
+        self.assert_soon(lambda: self.names(), ["locale", "sign"])
 
     def test_a_pattern_is_saved_and_opened_again_as_it_was_drawn(self):
         self.drag(self.browser.middle(NODE.format(3) + " .box"), self.place(0.6, 0.8))
@@ -398,7 +405,7 @@ class Files(Page):
         self.browser.until_kept("kept.feed")
         self.browser.open(self.server.url)
         self.assert_text("#world", "kept.feedadmitted")
-        self.assertEqual(self.names(), ["screen"])
+        self.assert_soon(lambda: self.names(), ["screen"])
 
     def test_names_of_another_store_are_refused(self):
         names = f"store sha256 {'0' * 64}\n"
