@@ -115,22 +115,20 @@ class Streams(CommandCase):
         Path("large.feed").write_text("label x 1\n" + "".join(f"node n{place} x\n" for place in range(60_000)))
         script = (
             "import sys; from bahrufaz.__main__ import run; sys.argv[1:] = ['build', 'large.feed', '-o', 'large.store']\n"
-            "print('ready', flush=True); sys.exit(run())"
+            "print('ready', flush=True); status = run(); print('done', flush=True); sys.exit(status)"
         )
         environment = {"PATH": os.environ["PATH"], "PYTHONPATH": str(CHECKOUT / "python")}
-        store = Path("large.store")
         for delay in (0.02, 0.1, 0.3, 0.6):
             for _ in range(8):
-                store.unlink(missing_ok=True)
                 process = subprocess.Popen(
                     [sys.executable, "-c", script], stdout=subprocess.PIPE, stderr=subprocess.PIPE, env=environment
                 )
                 self.assertEqual(process.stdout.readline(), b"ready\n")
                 time.sleep(delay)
                 process.send_signal(signal.SIGINT)
-                _, err = process.communicate()
-                # one that falls into Python's own end, after the command's, says nothing of the command, and is tried again
-                if not (process.returncode == -signal.SIGINT and store.exists()):
+                out, err = process.communicate()
+                # one that ends Python itself, after the command's own end, says nothing of the command, and is tried again
+                if (process.returncode, out, err) != (-signal.SIGINT, b"done\n", b""):
                     break
             self.assertIn(process.returncode, (0, 130), err)
             self.assertEqual(err, b"")
