@@ -31,6 +31,7 @@ pub mod Packing
 pub mod Lows
 -- loops and searches
 pub mod Loops
+pub mod Chains
 pub mod Halving
 pub mod Turns
 pub mod Searching
