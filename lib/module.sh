@@ -33,11 +33,12 @@ build_archive() {
     mv "$ours/bahrufaz.bc" "$ours/libbahrufaz.a" target/staticlib
 }
 
-# the kit's clang on the module, with the flags of a target: compile_module OUT FLAG..
+# the kit's clang on the module, or on another form of it, with the flags of a target: compile_module OUT FLAG..
+module=target/staticlib/bahrufaz.bc
 compile_module() {
     out=$1
     shift
-    if ! "$tools/bin/clang" -Wno-override-module -O3 "$@" -c -x ir target/staticlib/bahrufaz.bc -o "$out" 2>"$ours/log"; then
+    if ! "$tools/bin/clang" -Wno-override-module -O3 "$@" -c -x ir "$module" -o "$out" 2>"$ours/log"; then
         cat "$ours/log" >&2
         exit 1
     fi

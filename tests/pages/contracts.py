@@ -20,12 +20,14 @@ In a contract the name of a parameter stands for what was lent: the list of its 
 
 FUNCTION = re.compile(
     r"(?P<comment>(?:^//.*\n)*)(?:^#\[(?:[^\]]|\](?!\n))*\]\n)*"
-    r'^pub (?:extern "C" )?fn (?P<name>\w+)(?:<[^>]*>)?\((?P<parameters>(?:[^()]|\([^()]*\))*)\)(?P<result> -> [^\n{]+?)?'
+    r'^pub (?:extern "C" )?fn (?P<name>\w+)(?P<types><(?:->|[^<>])*>)?\((?P<parameters>(?:[^()]|\([^()]*\))*)\)(?P<result> -> [^\n{]+?)?'
     r"(?P<contract>(?:\n    (?:requires|ensures)\b.*(?:\n     .*)*)*)(?: \{|\n\{)$",
     re.MULTILINE,
 )
 CLAUSE = re.compile(r"^    (requires|ensures)( \w+)? \{ (.*) \}$")
 PROVIDED = re.compile(r"^ghost use Rattle\.(\w+)\.specs\.([\w.]+)\.\{([^}]*)\};", re.MULTILINE)
+# the methods of a type, indented below it
+METHODS = re.compile(r"^impl(?:<[^>]*>)? (?P<type>\w+)(?:<[^>]*>)? \{\n(?P<body>.*?)^\}$", re.MULTILINE | re.DOTALL)
 WORD = re.compile(r"[\w'-]+")
 
 
@@ -53,18 +55,31 @@ def clauses_of(contract):
         yield found[1], name + plain(found[3])
 
 
+def read_from(text):
+    """The public functions of a text as they are found in it, each with the type whose method it is, or none."""
+    for found in FUNCTION.finditer(text):
+        yield "", found
+    for methods in METHODS.finditer(text):
+        body = re.sub(r"^    ", "", methods["body"], flags=re.MULTILINE)
+        for found in FUNCTION.finditer(body):
+            yield methods["type"], found
+
+
 def functions_of(file, exported):
     """The public functions of a source file. One in a form that is not known here would be left out: that is an error."""
     text = file.read_text(encoding="utf-8")
     every = re.findall(r'^ *pub (?:extern "C" )?fn (\w+)', text, re.MULTILINE)
-    if every != [found["name"] for found in FUNCTION.finditer(text)]:
+    read = list(read_from(text))
+    if sorted(every) != sorted(found["name"] for _, found in read):
         sys.exit(f"{file.relative_to(ROOT)}: a public function stands in a form that tests/pages/contracts.py cannot read")
-    for found in FUNCTION.finditer(text):
+    for owner, found in read:
+        name = f"{owner}::{found['name']}" if owner else found["name"]
         parameters = ", ".join(re.sub(r",\s*$", "", found["parameters"].strip()).split(",\n    "))
+        types = found["types"] if found["types"] and ":" in found["types"] else ""
         contract = list(clauses_of(found["contract"]))
         comment = " ".join(line[3:] for line in found["comment"].splitlines())
-        seen = file.name == "lib.rt" or found["name"] in exported
-        yield Function(found["name"], comment, f"{found['name']}({parameters}){found['result'] or ''}", contract, seen)
+        seen = file.name == "lib.rt" or (owner or found["name"]) in exported
+        yield Function(name, comment, f"{name}{types}({parameters}){found['result'] or ''}", contract, seen)
 
 
 def definitions_of(text, functions):

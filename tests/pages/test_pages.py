@@ -111,9 +111,19 @@ class Contracts(Checkout):
         self.assertIn("// (inside this crate alone)\nhidden() -> u32", text)
 
     def test_a_form_that_cannot_be_read_is_an_error(self):
-        self.write("crates/plan/src/inner.rt", "impl S {\n    pub fn odd(self) -> u32 {\n    }\n}\n")
+        self.write("crates/plan/src/inner.rt", "mod odd {\n    pub fn odd() -> u32 {\n    }\n}\n")
         with self.assertRaises(SystemExit):
             contracts.section(self.root / "crates" / "plan")
+
+    def test_methods_and_what_a_function_takes_closures_of_are_told(self):
+        self.write(
+            "crates/plan/src/inner.rt",
+            "pub struct S;\n\nimpl<'a> S {\n    // The best.\n    pub fn best(self) -> u32\n        ensures { result ≡ 1 }\n    {\n    }\n}\n\n"
+            "pub fn each<F: Fn(usize) -> bool>(test: F)\n    ensures { ⊤ }\n{\n}\n",
+        )
+        text, _ = contracts.section(self.root / "crates" / "plan")
+        self.assertIn("// The best.\n// (inside this crate alone)\nS::best(self) -> u32\n    ensures result ≡ 1\n", text)
+        self.assertIn("each<F: Fn(usize) -> bool>(test: F)\n    ensures ⊤\n", text)
 
     def test_a_clause_that_cannot_be_read_is_an_error(self):
         self.write("crates/plan/src/inner.rt", INNER.replace("{ result ≡ 1 }", "{ result ≡ 1"))

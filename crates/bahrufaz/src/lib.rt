@@ -5,6 +5,8 @@ ghost use Rattle.std.specs.Prelude.{◌≡◌, [], ◌∷◌, ◌/◌, ◌%◌};
 ghost use Rattle.rules.specs.Answers.{admit_number, build_outcome, plan_outcome, list_outcome};
 ghost use Rattle.bahrufaz.specs.Boundary.{in_eight, in_eight_wide, left};
 
+use list::Listed;
+
 // Gives the results: four words, zeros, and the last word.
 fn give(results: &mut [u32; 8], first: u32, second: u32, third: u32, fourth: u32, last: u32)
     ensures { results.new ≡ first ∷ second ∷ third ∷ fourth ∷ 0 ∷ 0 ∷ 0 ∷ last ∷ [] }
@@ -55,8 +57,8 @@ pub extern "C" fn bahrufaz_plan(
     ensures { left result results.new room.new [] ≡ in_eight (plan_outcome store.now pattern.now room.old) }
 {
     let planned = plan::plan(store, pattern, room);
-    give(results, planned.bound, 0, 0, 0, 0);
-    planned.number
+    give(results, planned.unwrap_or_default(), 0, 0, 0, 0);
+    rules::number_of(&planned)
 }
 
 // Listing. Results: matches, node entries, edge entries, T; the last has the upper 32 bits of matches.
@@ -70,7 +72,14 @@ pub extern "C" fn bahrufaz_list(
 ) -> u32
     ensures { left result results.new room.new work.new ≡ in_eight_wide (list_outcome store.now pattern.now work.old room.old) }
 {
-    let listed = list::list(store, pattern, work, room);
+    let answer = list::list(store, pattern, work, room);
+    let nothing = Listed {
+        matches: 0,
+        nodes: 0,
+        edges: 0,
+        bound: 0,
+    };
+    let listed = answer.unwrap_or(nothing);
     give(
         results,
         lower(listed.matches),
@@ -79,5 +88,5 @@ pub extern "C" fn bahrufaz_list(
         listed.bound,
         upper(listed.matches),
     );
-    listed.number
+    rules::number_of(&answer)
 }

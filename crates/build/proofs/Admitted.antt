@@ -20,27 +20,30 @@ use Rattle.laws.specs.Sections as sections
 use Rattle.laws.specs.Sections.{header-length, store-form}
 use Rattle.build_edges.specs.Packed.{forward_words}
 use Rattle.build_edges.specs.Sound.{joined_set}
-use Rattle.build_groups.specs.Emit.{output_of, Placed}
+use Rattle.build_groups.specs.Emit.{Gives, Placed}
 use Rattle.build_keys.specs.Pass.{Right, passed}
+use Rattle.build_groups.specs.declared.Deed.TheVariants.{Compare}
 use Rattle.build_groups.specs.declared.Purpose.{Purpose}
-use Rattle.build_groups.specs.declared.Progress.{Progress}
+use Rattle.std.specs.Option.{is_some}
+use Rattle.std.specs.declared.option.Option.{Option}
+use Rattle.build_groups.specs.declared.Tally.{Tally}
 use Rattle.build.specs.Steps.{index_same}
 use Rattle.laws.specs.Over.{over-all}
 use Rattle.build_keys.proofs.Items.{short, total, group_for}
 use Rattle.build_keys.proofs.Whole.{compare-all, length-part}
 use Rattle.laws.specs.Parts.{part-add}
-use Rattle.build_keys.proofs.Index.{items_of, passed-items, index-items, index-length, index-total}
+use Rattle.build_keys.proofs.Index.{items_of, passed-items, index-items, index-length, index-total, write-compare, going-told}
 use Rattle.build.proofs.Written.{all-short, told, index-lengths}
 
 -- ---- the index
 abbrev pub compare_task : ℕ → ℕ → ℕ → Purpose
-compare_task at g e = record { mode = 2; above = 0; groups = g; entries = e; table = at; lists = at + g * 24 }
+compare_task at g e = record { deed = Compare; above_most = false; groups = g; entries = e; table = at; lists = at + g * 24 }
 
 pub placed-compare : (at g e a b : ℕ) → at + g * 24 + e * 8 ≤ a → Placed (compare_task at g e) a b
-placed-compare at g e a b h = record { writes = λ o. absurd (omega arith); reads = λ n o. record { table = omega arith; lists = omega arith } }
+placed-compare at g e a b h = record { writes = λ o. absurd (write-compare (sym o)); reads = λ o. record { table = omega arith; lists = omega arith } }
 
-pub index-compared : {s : List ℕ} → Right s → (at g e : ℕ) (r : Progress) (room room' : List ℕ) → at ≡ groups_at s → g ≡ length (store_index s) → e ≡ entry_total (store_index s) → groups_at s + g * 24 + e * 8 ≤ length s
-    → output_of r room' ≡ passed (compare_task at g e) s s room → not r.stopped ≡ index_same s g e
+pub index-compared : {s : List ℕ} → Right s → (at g e : ℕ) (r : Option Tally) (room room' : List ℕ) → at ≡ groups_at s → g ≡ length (store_index s) → e ≡ entry_total (store_index s) → groups_at s + g * 24 + e * 8 ≤ length s
+    → Gives r room' (passed (compare_task at g e) s s room) → is_some r ≡ index_same s g e
 unfolding items_of index_same
 index-compared {s} right at g e r room room' ea eg ee fits q =
     let task = compare_task at g e in
@@ -49,13 +52,13 @@ index-compared {s} right at g e r room room' ea eg ee fits q =
     let m : entry_total (store_index s) ≡ total xs = index-total right task s refl in
     let i : map (group_for (store_graph s)) xs ≡ store_index s = index-items right task s refl in
     let sh : all short xs ≡ true = all-short task (forward_words (edge_part s)) s (node_part s) (joined_set (edge_part s)) (constraint_part s) 0 (constraints_in (constraint_part s)) in
-    let w = compare-all task (told right) s (λ z. omega arith) (λ z. omega arith) 0 0 room xs sh (omega arith) (omega arith) (omega arith) (omega arith) in
+    let w = compare-all task (told right) s refl 0 0 room xs sh (omega arith) (omega arith) (omega arith) (omega arith) in
     let a : at + 0 * 24 ≡ groups_at s = omega arith in
     let b : at + g * 24 + 0 * 8 ≡ groups_at s + g * 24 = omega arith in
     let x : length xs ≡ g = omega arith in
     let y : total xs ≡ e = omega arith in
-    let v = ap (λ x. x.tally.stopped) (q ∙ passed-items right task s room) ∙ w in
-    ap not (rw (i, a, b, x, y) at v) ∙ not-not _
+    let v = ap (λ x. x.tally.stopped) (passed-items right task s room) ∙ w in
+    going-told r room' (passed task s s room) q ∙ ap not (rw (i, a, b, x, y) at v) ∙ not-not _
   where
     not-not : (b : Bool) → not (not b) ≡ b
     not-not true = refl

@@ -2,7 +2,7 @@
 use native.Mathlib.Omega.{arith}
 use native.Mathlib.Decide.{dec_le}
 use mathlib.Core.Path.{◌≡◌, refl, ap, ◌∙◌}
-use mathlib.Core.Bool.{Bool, true, ◌&&◌}
+use mathlib.Core.Bool.{Bool, true, false, ◌&&◌}
 use mathlib.Core.List.{List, [], ◌∷◌, ◌++◌, map}
 use Prim.Native.Nat.{ℕ, ◌+◌, ◌*◌, ◌≤◌}
 use lib.Dec.{leb}
@@ -18,16 +18,18 @@ use Rattle.build_edges.specs.Packed.{forward_words, word_in, labelled_in}
 use Rattle.build_edges.specs.Sound.{joined_set}
 use Rattle.build_neighbours.specs.Left.{labels_left}
 use Rattle.build_groups.specs.Keyed.{Keyed, keyed_from}
-use Rattle.build_groups.specs.Emit.{output_of, Placed}
+use Rattle.build_groups.specs.Emit.{Gives, Placed}
 use Rattle.build_keys.specs.Pass.{keyed_by, above_for, Right, passed}
+use Rattle.build_groups.specs.declared.Deed.TheVariants.{Write}
 use Rattle.build_groups.specs.declared.Purpose.{Purpose}
-use Rattle.build_groups.specs.declared.Progress.{Progress}
+use Rattle.std.specs.declared.option.Option.{Option}
+use Rattle.build_groups.specs.declared.Tally.{Tally}
 use Rattle.build_keys.proofs.Going.{keyed-short, keyed-here, keyed-on}
 use Rattle.build_keys.proofs.Passing.{labels-few}
 use Rattle.build_keys.proofs.Graphs.{graph-edges}
 use Rattle.build_keys.proofs.Items.{item, short, total, items_from, Told, group_for, length-groups, length-entries}
 use Rattle.build_keys.proofs.Whole.{write-fits}
-use Rattle.build_keys.proofs.Index.{items_of, passed-items, index-items, index-length, index-total, right-sound}
+use Rattle.build_keys.proofs.Index.{items_of, passed-items, index-items, index-length, index-total, right-sound, write-compare, room-told}
 
 -- no key has more than three ids
 abbrev few : Keyed → Bool
@@ -64,18 +66,18 @@ all-short task words store nodes joined constraints k n =
 
 -- ---- the index
 abbrev pub write_task : ℕ → ℕ → ℕ → Purpose
-write_task at g e = record { mode = 1; above = 0; groups = g; entries = e; table = at; lists = at + g * 24 }
+write_task at g e = record { deed = Write; above_most = false; groups = g; entries = e; table = at; lists = at + g * 24 }
 
 pub placed-write : (at g e a b : ℕ) → at + g * 24 + e * 8 ≤ b → Placed (write_task at g e) a b
-placed-write at g e a b h = record { writes = λ o. record { table = omega arith; lists = omega arith }; reads = λ n o. absurd (o refl) }
+placed-write at g e a b h = record { writes = λ o. record { table = omega arith; lists = omega arith }; reads = λ o. absurd (write-compare o) }
 
 module _ {s : List ℕ} (right : Right s) where
   pub told : Told (store_graph s) (forward_words (edge_part s))
   unfolding store_graph graph_of
   told = record { edges = graph-edges (edge_part s) (right-sound right).below (right-sound right).ascends }
 
-  pub index-written : (at g e : ℕ) (r : Progress) (room room' : List ℕ) → g ≡ length (store_index s) → e ≡ entry_total (store_index s) → at + g * 24 + e * 8 ≤ length room
-      → output_of r room' ≡ passed (write_task at g e) s s room
+  pub index-written : (at g e : ℕ) (r : Option Tally) (room room' : List ℕ) → g ≡ length (store_index s) → e ≡ entry_total (store_index s) → at + g * 24 + e * 8 ≤ length room
+      → Gives r room' (passed (write_task at g e) s s room)
       → room' ≡ over (over room at (group_bytes 0 (store_index s))) (at + g * 24) (entry_bytes (store_index s))
   unfolding items_of
   index-written at g e r room room' eg ee fits q =
@@ -89,7 +91,7 @@ module _ {s : List ℕ} (right : Right s) where
       let w = write-fits task told s refl (omega arith) 0 0 room xs sh (omega arith) (omega arith) (omega arith) in
       let a : at + 0 * 24 ≡ at = omega arith in
       let b : at + g * 24 + 0 * 8 ≡ at + g * 24 = omega arith in
-      rw (i, a, b) at (ap (λ x. x.room) (q ∙ passed-items right task s room ∙ w))
+      rw (i, a, b) at (room-told r room' (passed task s s room) q ∙ ap (λ x. x.room) (passed-items right task s room ∙ w))
 
   -- how long the groups and entries are
   pub index-lengths : (g e : ℕ) → g ≡ length (store_index s) → e ≡ entry_total (store_index s)

@@ -1,12 +1,12 @@
 // Refusals 2 and 3; refusals 4 and 11, and how many groups and entries the index has.
-ghost use Rattle.std.specs.Prelude.{◌≡◌, true, false, length, ◌≤◌};
+ghost use Rattle.std.specs.Prelude.{◌≡◌, true, false, length, ◌≤◌, MatchOption};
 ghost use Rattle.rules.specs.Store.{constraint_part, constraints_right, groups_at, header_right};
 ghost use Rattle.rules.specs.Index.{exceeds, too_many, store_index, entry_total};
 ghost use Rattle.laws.specs.Refusals.{graph_number};
 ghost use Rattle.build_keys.specs.Pass.{Laid};
 ghost use Rattle.build.specs.Steps.{record_number};
 
-use build_groups::{Progress, Purpose};
+use build_groups::{Deed, Purpose, Tally};
 
 // The number of refusal, 0 for none, and then how many groups and entries the index has.
 #[derive(Clone, Copy)]
@@ -23,26 +23,26 @@ fn some_above(s: &[u8], joined: &[u32]) -> bool
 {
     let mut none = [0u8; 1];
     let task = Purpose {
-        mode: 0,
-        above: 1,
+        deed: Deed::Count,
+        above_most: true,
         groups: 0,
         entries: rules::MOST_ENTRIES,
         table: 0,
         lists: 0,
     };
     let t = build_index::pass(task, s, joined, s, &mut none);
-    t.stopped
+    t.is_none()
 }
 
-// Counts the groups and entries of the index, and stops where they are too many.
-fn count_all(s: &[u8], joined: &[u32]) -> Progress
+// How many groups and entries the index has; None where they are too many.
+fn count_all(s: &[u8], joined: &[u32]) -> Option<Tally>
     requires { Laid s.now joined.now }
-    ensures { (result.stopped ≡ too_many s.now) × (result.stopped ≡ false → (result.groups ≡ length (store_index s.now)) × (result.entries ≡ entry_total (store_index s.now))) }
+    ensures { MatchOption result (too_many s.now ≡ true) (λ t. (too_many s.now ≡ false) × ((t.groups ≡ length (store_index s.now)) × (t.entries ≡ entry_total (store_index s.now)))) }
 {
     let mut none = [0u8; 1];
     let task = Purpose {
-        mode: 0,
-        above: 0,
+        deed: Deed::Count,
+        above_most: false,
         groups: rules::MOST_GROUPS,
         entries: rules::MOST_ENTRIES,
         table: 0,
@@ -85,14 +85,13 @@ pub fn count(s: &[u8], joined: &[u32]) -> Counted
             entries: 0,
         };
     }
-    let all = count_all(s, joined);
-    if all.stopped {
+    let Some(all) = count_all(s, joined) else {
         return Counted {
             number: 11,
             groups: 0,
             entries: 0,
         };
-    }
+    };
     Counted {
         number: 0,
         groups: all.groups,

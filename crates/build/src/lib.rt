@@ -15,10 +15,10 @@ ghost use Rattle.build_keys.specs.Pass.{AtHand, Laid};
 ghost use Rattle.build.specs.Steps.{Settled, Fitting, index_same};
 ghost use Rattle.build.specs.Outcome.{gave};
 
-use build_groups::Purpose;
+use build_groups::{Deed, Purpose};
 use count::{count, record_number};
 use rules::Built;
-use write::{groups_at, put_bytes, put_header, write_index};
+use write::{groups_at, put_header, write_index};
 
 // Arranges the edges of s, which are at hand both ways round.
 fn lay(s: &[u8], joined: &mut [u32])
@@ -58,7 +58,7 @@ fn write_store(draft: &[u8], joined: &[u32], groups: u32, entries: u32, room: &m
     ensures { room.new ≡ over room.old 0 (store_of draft.now) }
 {
     put_header(draft, groups, entries, room);
-    put_bytes(room, 48, &draft[48..]);
+    build_groups::put_bytes(room, 48, &draft[48..]);
     write_index(draft, joined, groups, entries, room);
 }
 
@@ -133,8 +133,8 @@ fn index_same(s: &[u8], joined: &[u32], groups: u32, entries: u32) -> bool
 {
     let table = groups_at(s);
     let task = Purpose {
-        mode: 2,
-        above: 0,
+        deed: Deed::Compare,
+        above_most: false,
         groups: groups,
         entries: entries,
         table: table,
@@ -142,7 +142,7 @@ fn index_same(s: &[u8], joined: &[u32], groups: u32, entries: u32) -> bool
     };
     let mut none = [0u8; 1];
     let t = build_index::pass(task, s, joined, s, &mut none);
-    !t.stopped
+    t.is_some()
 }
 
 // Admits a store without refusal 1, 2 or 3, whose edges both ways round are at hand.

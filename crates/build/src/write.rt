@@ -6,7 +6,7 @@ ghost use Rattle.rules.specs.Index.{store_index, entry_total, group_bytes, entry
 ghost use Rattle.laws.specs.Header.{Limits};
 ghost use Rattle.build_keys.specs.Pass.{Laid};
 
-use build_groups::Purpose;
+use build_groups::{Deed, Purpose};
 
 // Where the groups of a store start.
 pub fn groups_at(s: &[u8]) -> usize
@@ -43,18 +43,6 @@ pub fn put_header(s: &[u8], groups: u32, entries: u32, room: &mut [u8])
     );
 }
 
-// Writes bytes over a room from `at` on.
-pub fn put_bytes(room: &mut [u8], at: usize, bytes: &[u8])
-    requires { at + length bytes.now ≤ length room.old }
-    ensures { room.new ≡ over room.old at bytes.now }
-{
-    let mut i = 0;
-    while i < bytes.len() {
-        room[at + i] = bytes[i];
-        i += 1;
-    }
-}
-
 // Writes the groups and entries of the index of s.
 pub fn write_index(s: &[u8], joined: &[u32], groups: u32, entries: u32, room: &mut [u8])
     requires { Laid s.now joined.now × ((groups ≡ length (store_index s.now)) × ((entries ≡ entry_total (store_index s.now)) × (groups_at s.now + groups * 24 + entries * 8 ≤ length room.old))) }
@@ -62,8 +50,8 @@ pub fn write_index(s: &[u8], joined: &[u32], groups: u32, entries: u32, room: &m
 {
     let table = groups_at(s);
     let task = Purpose {
-        mode: 1,
-        above: 0,
+        deed: Deed::Write,
+        above_most: false,
         groups: groups,
         entries: entries,
         table: table,

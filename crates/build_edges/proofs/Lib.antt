@@ -1,6 +1,5 @@
 pub mod Sections
 mod Filling
-pub mod Kept
 pub mod Edges
 mod Starting
 mod Beginnings

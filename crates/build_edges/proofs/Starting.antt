@@ -6,8 +6,8 @@ use mathlib.Core.Bool.{Bool, true, false}
 use mathlib.Core.List.{List, [], ◌∷◌}
 use Prim.Native.Nat.{ℕ, zero, suc, ◌+◌, ◌-◌, ◌*◌, ◌/◌, ◌≤◌, ◌<◌}
 use lib.Dec.{ltb}
-use lib.ListN.{length, get_or, set, length-set}
-use lib.Seq.{slice, take-length, get_or-set_same, get_or-set_other}
+use lib.ListN.{length, get_or}
+use lib.Seq.{slice, take-length}
 use borrow.Author.Tests.{lt-ltb, le-ltb, le-leb, lt-leb, ltb-true}
 use Rattle.rules.specs.Words.{part}
 use Rattle.rules.specs.Lists.{keep}
@@ -117,32 +117,6 @@ module _ {words starts : List ℕ} (b : Begun words starts) (v : ℕ) (h : v < 6
 
   pub run-found : part words (get_or starts v 0) (get_or starts (v + 1) 0) ≡ words_of words v
   run-found = run-between v words (get_or starts v 0) (get_or starts (v + 1) 0) b.climbs (b.at v (omega arith)) (b.at (v + 1) (omega arith))
-
--- ---- the loop that fills a run
-pub record Running (from x : ℕ) (before after : List ℕ) (i : ℕ) : Type 0 where
-  pub low : from ≤ i
-  pub same : length after ≡ length before
-  pub done : Filled from i x before after
-
-pub run-start : (from x : ℕ) (out : List ℕ) → Running from x out out from
-run-start from x out = record { low = omega arith; same = refl; done = record { front = λ i h. refl; run = λ i h k. absurd (omega arith) } }
-
-pub run-next : {from x : ℕ} {before after : List ℕ} {i : ℕ} → Running from x before after i → i < length after → Running from x before (set after i x) (i + 1)
-run-next {from} {x} {before} {after} {i} r h = record {
-  low = let l = r.low in omega arith;
-  same = length-set after i x ∙ r.same;
-  done = record {
-    front = λ j p. get_or-set_other after i j x 0 (λ q. let l = r.low in omega arith) ∙ r.done.front j p;
-    run = λ j p q. go j p q (ℕ_discrete j i);
-  };
-}
-  where
-    go : (j : ℕ) → from ≤ j → j < i + 1 → Dec (j ≡ i) → get_or (set after i x) j 0 ≡ x
-    go j p q (yes e) = rw e (get_or-set_same after i x 0 h)
-    go j p q (no f) = get_or-set_other after i j x 0 f ∙ r.done.run j p (omega arith)
-
-pub run-done : {from x : ℕ} {before after : List ℕ} {i : ℕ} (to : ℕ) → from ≤ to → Running from x before after i → i ≤ to → to ≤ i → Filled from to x before after
-run-done {from} {x} {before} {after} {i} to o r a b = let e : i ≡ to = omega arith in rw e at r.done
 
 -- ---- the loop that writes the starts: those below v are written, and the first i words have nodes below v
 pub record Starting (words starts : List ℕ) (v i : ℕ) : Type 0 where

@@ -12,6 +12,10 @@ start_of words v = length (keep (λ w. ltb (w / 65536) v) words)
 pub record Climbs (words : List ℕ) : Type 0 where
   pub up : (i j : ℕ) → i ≤ j → j < length words → get_or words i 0 / 65536 ≤ get_or words j 0 / 65536
 
+-- it reads the high halves of the words
+abbrev pub Highs : (ℕ → ℕ → Type 0) → List ℕ → Type 0
+Highs post words = (i r : ℕ) → i < length words → post i r → r ≡ get_or words i 0 / 65536
+
 -- it is at hand where the words of each node start
 pub record Begun (words starts : List ℕ) : Type 0 where
   pub climbs : Climbs words

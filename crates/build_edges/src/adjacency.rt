@@ -1,8 +1,8 @@
 // The edges of a store as packed words, and the lists that they give.
-ghost use Rattle.std.specs.Prelude.{◌≡◌, ◌++◌, map, ◌≤◌, ◌<◌, length, take, drop};
+ghost use Rattle.std.specs.Prelude.{◌≡◌, ◌++◌, ◌+◌, ◌*◌, map, ◌≤◌, ◌<◌, length, take, drop, MatchOption};
 ghost use Rattle.rules.specs.Lists.{range, keep};
 ghost use Rattle.rules.specs.Store.{most_nodes, edges_in, nodes_in};
-ghost use Rattle.laws.specs.Searching.{is_below, lower, stands_in};
+ghost use Rattle.laws.specs.Searching.{stands_in};
 ghost use Rattle.build_edges.specs.Packed.{forward_at, backward_at, EdgesBelow, forward_words, word_in, has_label, labelled_in};
 ghost use Rattle.build_edges.specs.Near.{words_of};
 ghost use Rattle.build_edges.specs.Starts.{Edged};
@@ -12,8 +12,7 @@ pub fn forward_at(edges: &[u8], i: usize) -> u32
     requires { (i < edges_in edges.now) × EdgesBelow edges.now }
     ensures { result ≡ forward_at edges.now i }
 {
-    let edge = store::edge_at(edges, i);
-    edge.from * 65536 + edge.to
+    wide_at(edges, i) as u32
 }
 
 // Edge i as a word the other way round.
@@ -30,11 +29,8 @@ pub fn put_backward(edges: &[u8], out: &mut [u32])
     requires { (edges_in edges.now ≤ length out.old) × EdgesBelow edges.now }
     ensures { out.new ≡ map (backward_at edges.now) (range 0 (edges_in edges.now)) ++ drop (edges_in edges.now) out.old }
 {
-    let m = edges.len() / 8;
-    let mut i = 0;
-    while i < m {
+    for i in 0..edges.len() / 8 {
         out[i] = backward_at(edges, i);
-        i += 1;
     }
 }
 
@@ -44,43 +40,14 @@ fn wide_at(edges: &[u8], i: usize) -> u64
     ensures { result ≡ forward_at edges.now i }
 {
     let edge = store::edge_at(edges, i);
-    edge.from as u64 * 65536 + edge.to as u64
-}
-
-// Whether the word of edge i is below x.
-fn edge_below(edges: &[u8], x: u64, i: usize) -> bool
-    requires { i < edges_in edges.now }
-    ensures { result ≡ is_below (forward_words edges.now) x i }
-{
-    wide_at(edges, i) < x
-}
-
-// The first edge whose word is not below x, or their number if there is none.
-fn lower_edge(edges: &[u8], x: u64) -> usize
-    ensures { (result ≡ lower x (forward_words edges.now)) × (result ≤ edges_in edges.now) }
-{
-    let mut low = 0;
-    let mut high = edges.len() / 8;
-    while low < high {
-        let mid = (low + high) / 2;
-        if edge_below(edges, x, mid) {
-            low = mid + 1;
-        } else {
-            high = mid;
-        }
-    }
-    low
+    u64::from(edge.from) * 65536 + u64::from(edge.to)
 }
 
 // Whether x stands where a binary search in the edges ends.
 fn stands_in(edges: &[u8], x: u64) -> bool
     ensures { result ≡ stands_in x (forward_words edges.now) }
 {
-    let at = lower_edge(edges, x);
-    if edges.len() / 8 <= at {
-        return false;
-    }
-    wide_at(edges, at) == x
+    order::stands_at(edges.len() / 8, x, |i| wide_at(edges, i))
 }
 
 // The edges that come from u, which stand together.
@@ -93,34 +60,39 @@ fn edges_of<'a>(edges: &'a [u8], begins: &[u32], u: u32) -> &'a [u8]
     &edges[start..end]
 }
 
+// The word of u and v, if both are ids.
+fn word_of(u: u32, v: u32) -> Option<u32>
+    ensures { MatchOption result (u < 65536 → 65536 ≤ v) (λ w. (u < 65536) × ((v < 65536) × (w ≡ u * 65536 + v))) }
+{
+    if u < 65536 && v < 65536 {
+        Some(u * 65536 + v)
+    } else {
+        None
+    }
+}
+
 // Whether the word of u and v is among the words of the edges, of which those from u are looked at.
 pub fn edge_in(edges: &[u8], begins: &[u32], u: u32, v: u32) -> bool
     requires { Edged edges.now begins.now }
     ensures { result ≡ word_in (forward_words edges.now) u v }
 {
-    if 65536 <= u {
+    let Some(word) = word_of(u, v) else {
         return false;
-    }
-    if 65536 <= v {
-        return false;
-    }
+    };
     if 65535 <= u {
-        return stands_in(edges, u as u64 * 65536 + v as u64);
+        return stands_in(edges, u64::from(word));
     }
-    stands_in(edges_of(edges, begins, u), u as u64 * 65536 + v as u64)
+    stands_in(edges_of(edges, begins, u), u64::from(word))
 }
 
 // Whether the word of u and v is among the words.
 pub fn word_in(words: &[u32], u: u32, v: u32) -> bool
     ensures { result ≡ word_in words.now u v }
 {
-    if 65536 <= u {
+    let Some(word) = word_of(u, v) else {
         return false;
-    }
-    if 65536 <= v {
-        return false;
-    }
-    order::has_word(words, u * 65536 + v)
+    };
+    order::has_word(words, word)
 }
 
 // Whether node v is labelled l.
@@ -136,18 +108,12 @@ pub fn labelled(nodes: &[u8], l: u16, out: &mut [u32]) -> usize
     requires { (nodes_in nodes.now ≤ length out.old) × (nodes_in nodes.now ≤ most_nodes) }
     ensures { (result ≤ nodes_in nodes.now) × (take result out.new ≡ labelled_in nodes.now l) }
 {
-    let n = nodes.len() / 8;
-    let mut k = 0;
-    let mut v = 0;
-    while v < n {
-        let x = v;
-        v += 1;
-        if has_label(nodes, l, x) {
-            out[k] = x as u32;
-            k += 1;
-        }
-    }
-    k
+    order::keep_front(
+        nodes.len() / 8,
+        |v| v as u32,
+        |v| has_label(nodes, l, v as usize),
+        out,
+    )
 }
 
 // Leaves those of a list that are joined with u, in their order, at the front of out, and returns how many they are.
@@ -155,15 +121,5 @@ pub fn shared_listed(joined: &[u32], list: &[u32], u: u32, out: &mut [u32]) -> u
     requires { length list.now ≤ length out.old }
     ensures { (result ≤ length list.now) × (take result out.new ≡ keep (word_in joined.now u) list.now) }
 {
-    let mut k = 0;
-    let mut i = 0;
-    while i < list.len() {
-        let v = list[i];
-        i += 1;
-        if word_in(joined, u, v) {
-            out[k] = v;
-            k += 1;
-        }
-    }
-    k
+    order::keep_front(list.len(), |i| list[i], |v| word_in(joined, u, v), out)
 }

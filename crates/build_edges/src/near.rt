@@ -1,5 +1,5 @@
 // The nodes near a list, found from the words of its own nodes: what is joined with a node stands together.
-ghost use Rattle.std.specs.Prelude.{◌≡◌, ◌++◌, ◌+◌, ◌≤◌, ◌<◌, length, take};
+ghost use Rattle.std.specs.Prelude.{◌≡◌, ◌++◌, ◌+◌, ◌≤◌, ◌<◌, length, take, MatchOption};
 ghost use Rattle.rules.specs.Lists.{keep};
 ghost use Rattle.laws.specs.Strict.{Strict};
 ghost use Rattle.rules.specs.Store.{most_nodes, nodes_in};
@@ -25,17 +25,12 @@ pub fn shared_near(near: &[u32], list: &[u32], out: &mut [u32]) -> usize
     requires { length near.now ≤ length out.old }
     ensures { (result ≤ length near.now) × (take result out.new ≡ keep (λ v. stands_in v list.now) (lows near.now)) }
 {
-    let mut k = 0;
-    let mut i = 0;
-    while i < near.len() {
-        let v = near[i] % 65536;
-        i += 1;
-        if order::has_word(list, v) {
-            out[k] = v;
-            k += 1;
-        }
-    }
-    k
+    order::keep_front(
+        near.len(),
+        |i| near[i] % 65536,
+        |v| order::has_word(list, v),
+        out,
+    )
 }
 
 // Leaves those of a list that are joined with u, in their order, at the front of out, and returns how many they are.
@@ -69,39 +64,31 @@ fn add_near(nodes: &[u8], l: u16, near: &[u32], out: &mut [u32], k: usize) -> us
     requires { k + length near.now ≤ length out.old }
     ensures { (result ≤ k + length near.now) × (take result out.new ≡ take k out.old ++ keep (is_labelled nodes.now l) (lows near.now)) }
 {
-    let mut n = k;
-    let mut i = 0;
-    while i < near.len() {
-        let u = near[i] % 65536;
-        i += 1;
-        if is_labelled(nodes, l, u) {
-            out[n] = u;
-            n += 1;
-        }
-    }
-    n
+    k + order::keep_front(
+        near.len(),
+        |i| near[i] % 65536,
+        |u| is_labelled(nodes, l, u),
+        &mut out[k..],
+    )
 }
 
-// Leaves the neighbours labelled l of all nodes of a list at the front of out, and returns how many they are; 65,537 where they may be too many.
-fn gather(nodes: &[u8], joined: &[u32], list: &[u32], l: u16, out: &mut [u32]) -> usize
+// Leaves the neighbours labelled l of all nodes of a list at the front of out, and returns how many they are, unless they may be too many.
+fn gather(nodes: &[u8], joined: &[u32], list: &[u32], l: u16, out: &mut [u32]) -> Option<usize>
     requires { (65536 ≤ length out.old) × Strict joined.now }
-    ensures { result ≤ 65536 → take result out.new ≡ keep (is_labelled nodes.now l) (near_of joined.now list.now) }
+    ensures { MatchOption result (Unit {0}) (λ k. (k ≤ 65536) × (take k out.new ≡ keep (is_labelled nodes.now l) (near_of joined.now list.now))) }
 {
     let mut k = 0;
-    let mut i = 0;
-    while i < list.len() {
-        let v = list[i];
-        i += 1;
+    for &v in list {
         if 65535 <= v {
-            return 65537;
+            return None;
         }
         let near = words_of(joined, v);
         if 65536 - k < near.len() {
-            return 65537;
+            return None;
         }
         k = add_near(nodes, l, near, out, k);
     }
-    k
+    Some(k)
 }
 
 // Leaves the nodes labelled l that are to be tried for a list, ascending, at the front of out, and returns how many they are.
@@ -116,9 +103,8 @@ pub fn tried(
     requires { ((65536 ≤ length out.old) × (65536 ≤ length scratch.old)) × ((nodes_in nodes.now ≤ most_nodes) × Joined joined.now) }
     ensures { (result ≤ 65536) × Tried nodes.now joined.now l list.now (take result out.new) }
 {
-    let k = gather(nodes, joined, list, l, out);
-    if k <= 65536 {
-        return order::to_set(&mut out[..k], scratch);
+    match gather(nodes, joined, list, l, out) {
+        Some(k) => order::to_set(&mut out[..k], scratch),
+        None => labelled(nodes, l, out),
     }
-    labelled(nodes, l, out)
 }

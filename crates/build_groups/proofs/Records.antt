@@ -3,7 +3,10 @@ use native.Mathlib.Omega.{arith}
 use mathlib.Core.Path.{◌≡◌, refl, sym, ap, ◌∙◌}
 use mathlib.Core.List.{List, [], ◌∷◌, ◌++◌, flat_map}
 use Prim.Native.Nat.{ℕ, ◌+◌, ◌*◌, ◌≤◌}
-use lib.ListN.{length, length-append}
+use lib.ListN.{length, take, drop, set, length-append}
+use Rattle.std.proofs.Common.{append_assoc}
+use lib.Seq.{drop-drop}
+use borrow.Rule.Slice.PartMut.{put_mid}
 use Rattle.rules.specs.Words.{u32_bytes, encoded, over}
 use Rattle.laws.specs.Over.{over-over, over-nil, length-over}
 use Rattle.build_groups.specs.Emit.{dirs_of, group_record, entry_record, list_records}
@@ -24,12 +27,17 @@ module _ (s₀ s₁ s₂ s₃ s₄ s₅ s₆ : List ℕ) (at a b c d e f : ℕ) 
       p₅ ∙ ap (λ s. over s (at + 16) (u32_bytes e)) q₄ ∙ over-over s₀ at (u32_bytes a ++ u32_bytes b ++ u32_bytes c ++ u32_bytes d) (omega arith) (u32_bytes e) in
       p₆ ∙ ap (λ s. over s (at + 20) (u32_bytes f)) q₅ ∙ over-over s₀ at (u32_bytes a ++ u32_bytes b ++ u32_bytes c ++ u32_bytes d ++ u32_bytes e) (omega arith) (u32_bytes f)
 
--- a node id, then the directions and three zero bytes
-pub one-entry : (s₀ s₁ s₂ words ids : List ℕ) (at v x : ℕ) → at + 8 ≤ length s₀ → x ≡ dirs_of words ids v → s₁ ≡ over s₀ at (u32_bytes v)
-    → s₂ ≡ over s₁ (at + 4) (x ∷ 0 ∷ 0 ∷ 0 ∷ []) → s₂ ≡ over s₀ at (entry_record words ids v)
-unfolding entry_record
-one-entry s₀ s₁ s₂ words ids at v x fits e p q =
-    q ∙ ap (λ s. over s (at + 4) (x ∷ 0 ∷ 0 ∷ 0 ∷ [])) p ∙ over-over s₀ at (u32_bytes v) (omega arith) (x ∷ 0 ∷ 0 ∷ 0 ∷ []) ∙ rw e
+-- a node id, then the directions over the first of four zero bytes
+pub one-entry : (s words ids : List ℕ) (v x : ℕ) (zeros : List ℕ) → x ≡ dirs_of words ids v → s ≡ over zeros 0 (u32_bytes v) → zeros ≡ 0 ∷ 0 ∷ 0 ∷ 0 ∷ 0 ∷ 0 ∷ 0 ∷ 0 ∷ []
+    → set s 4 x ≡ entry_record words ids v
+unfolding entry_record over
+one-entry s words ids v x zeros e p z = rw (p, z, e) refl
+
+-- bytes that are put into a part of a room
+pub put-over : (room bytes now : List ℕ) (at k : ℕ) → k ≡ length bytes → now ≡ bytes → put_mid at k room now ≡ over room at bytes
+unfolding over
+put-over room bytes now at k e h =
+    rw (e, h) (ap (λ d. take at room ++ (bytes ++ d)) (drop-drop (length bytes) at room) ∙ sym (append_assoc (take at room) bytes (drop (at + length bytes) room)))
 
 pub length-group : (c a b d e f : ℕ) → length (group_record c (a ∷ b ∷ d ∷ []) e f) ≡ 24
 unfolding group_record encoded

@@ -1,5 +1,7 @@
 -- What a walk does with the keys and lists that it comes to: it counts them, writes them or compares them.
-use Rattle.std.specs.Prelude.{ℕ, ◌+◌, ◌*◌, ◌≤◌, ◌≡◌, Bool, true, false, cond, not, ◌&&◌, ltb, leb, eqb, length}
+use Rattle.std.specs.Prelude.{ℕ, ◌+◌, ◌*◌, ◌≤◌, ◌≡◌, Bool, true, false, cond, not, ◌&&◌, ltb, leb, length}
+use Rattle.std.specs.Option.{MatchOption}
+use Rattle.std.specs.declared.option.Option.{Option}
 use mathlib.Core.List.{List, [], ◌∷◌, ◌++◌, flat_map}
 use Rattle.rules.specs.Words.{u32_bytes, encoded, part, over}
 use Rattle.rules.specs.Lists.{padded}
@@ -8,8 +10,10 @@ use Rattle.rules.specs.declared.Key.{Key}
 use Rattle.rules.specs.Answers.{same}
 use Rattle.build_edges.specs.Packed.{word_in}
 use Rattle.build_groups.specs.Keyed.{Keyed}
+use Rattle.build_groups.specs.declared.Deed.{Deed}
+use Rattle.build_groups.specs.declared.Deed.TheVariants.{Count, Write, Compare}
 use Rattle.build_groups.specs.declared.Purpose.{Purpose}
-use Rattle.build_groups.specs.declared.Progress.{Progress}
+use Rattle.build_groups.specs.declared.Tally.{Tally}
 
 -- the two bits of key node u and entry v
 unfoldable pub bits_of : List ℕ → ℕ → ℕ → ℕ
@@ -34,13 +38,26 @@ entry_record words ids v = u32_bytes v ++ dirs_of words ids v ∷ 0 ∷ 0 ∷ 0 
 unfoldable pub list_records : List ℕ → List ℕ → List ℕ → List ℕ
 list_records words ids list = flat_map (entry_record words ids) list
 
--- how far a walk has come, and the room that it writes to
+-- how far a walk has come: groups and entries so far, and whether it has stopped
+pub record Progress : Type 0 where
+  pub groups : ℕ
+  pub entries : ℕ
+  pub stopped : Bool
+
+abbrev pub going : Tally → Progress
+going t = record { groups = t.groups; entries = t.entries; stopped = false }
+
+-- that, and the room that it writes to
 pub record Output : Type 0 where
   pub tally : Progress
   pub room : List ℕ
 
 abbrev pub output_of : Progress → List ℕ → Output
 output_of t room = record { tally = t; room = room }
+
+-- a walk that has come to a tally goes on, and one that has none has stopped
+abbrev pub Gives : Option Tally → List ℕ → Output → Type 0
+Gives r room s = MatchOption r ((s.tally.stopped ≡ true) × (room ≡ s.room)) (λ t. output_of (going t) room ≡ s)
 
 -- where the next group and the next entry stand
 abbrev pub group_place : Purpose → Progress → ℕ
@@ -69,8 +86,8 @@ pub record Lies (task : Purpose) (n : ℕ) : Type 0 where
   pub lists : task.lists + task.entries * 8 ≤ n
 
 pub record Placed (task : Purpose) (store room : ℕ) : Type 0 where
-  pub writes : task.mode ≡ 1 → Lies task room
-  pub reads : (task.mode ≡ 0 → ⊥) → (task.mode ≡ 1 → ⊥) → Lies task store
+  pub writes : task.deed ≡ Write → Lies task room
+  pub reads : task.deed ≡ Compare → Lies task store
 
 -- the group is written
 unfoldable pub written : Purpose → List ℕ → ℕ → List ℕ → List ℕ → Progress → List ℕ → List ℕ
@@ -84,27 +101,25 @@ agrees task words c ids list t store =
     same (part store (group_place task t) (group_place task t + 24)) (group_record c ids t.entries (length list))
     && same (part store (entry_place task t) (entry_place task t + length list * 8)) (list_records words ids list)
 
--- one key with its list, where it is known whether the walk has stopped, whether it stays within its bounds, and whether it counts or writes
-unfoldable pub emit_by : Purpose → List ℕ → List ℕ → Output → ℕ → List ℕ → List ℕ → Bool → Bool → Bool → Bool → Output
-emit_by task words store s c ids list stopped inside counts writes =
+-- one key with its list, where it is known whether the walk has stopped, whether it stays within its bounds, and what it does
+unfoldable pub emit_by : Purpose → List ℕ → List ℕ → Output → ℕ → List ℕ → List ℕ → Bool → Bool → Deed → Output
+emit_by task words store s c ids list stopped inside deed =
     elim stopped [
       | true ↦ s
       | false ↦ elim inside [
-        | true ↦ elim counts [
-          | true ↦ record { tally = counted s.tally (length list) false; room = s.room }
-          | false ↦ elim writes [
-            | true ↦ record { tally = counted s.tally (length list) false; room = written task words c ids list s.tally s.room }
-            | false ↦ record { tally = counted s.tally (length list) (not (agrees task words c ids list s.tally store)); room = s.room }
-          ]
+        | true ↦ elim deed [
+          | Count ↦ record { tally = counted s.tally (length list) false; room = s.room }
+          | Write ↦ record { tally = counted s.tally (length list) false; room = written task words c ids list s.tally s.room }
+          | Compare ↦ record { tally = counted s.tally (length list) (not (agrees task words c ids list s.tally store)); room = s.room }
         ]
         | false ↦ record { tally = record { groups = s.tally.groups; entries = s.tally.entries; stopped = true }; room = s.room }
       ]
     ]
 
--- by the mode: 0 counts, 1 writes, any other compares with the store; a stopped walk does nothing more
+-- counted, written or compared with the store; a stopped walk does nothing more
 unfoldable pub emit : Purpose → List ℕ → List ℕ → Output → ℕ → List ℕ → List ℕ → Output
 emit task words store s c ids list =
-    emit_by task words store s c ids list s.tally.stopped (within task s.tally (length list)) (eqb task.mode 0) (eqb task.mode 1)
+    emit_by task words store s c ids list s.tally.stopped (within task s.tally (length list)) task.deed
 
 -- all of them, one after another
 unfoldable pub emit_all : Purpose → List ℕ → List ℕ → ℕ → Output → List Keyed → Output

@@ -1,6 +1,8 @@
 -- The state of `walk`'s loop, and the laws that take it from its start over each kind of turn to its ends. Assumes nothing.
 use native.Mathlib.Omega.{arith}
-use mathlib.Core.Path.{◌≡◌, refl, sym, ap, ◌∙◌}
+use mathlib.Core.Path.{◌≡◌, refl, sym, ap, subst, ◌∙◌}
+use Rattle.std.specs.declared.option.Option.{Option}
+use Rattle.std.specs.declared.option.Option.TheVariants.{None, Some}
 use mathlib.Core.Bool.{Bool, true}
 use mathlib.Core.List.{List, [], ◌∷◌, ◌++◌, flat_map}
 use Prim.Native.Nat.{ℕ, zero, suc, ◌+◌, ◌*◌, ◌/◌, ◌≤◌, ◌<◌}
@@ -21,10 +23,12 @@ use Rattle.build_neighbours.specs.Pairs.{part_told, Paired}
 use Rattle.build_neighbours.specs.Left.{labels_left, labels_in}
 use Rattle.build_neighbours.specs.declared.Labels.{Labels}
 use Rattle.build_groups.specs.Keyed.{Keyed, keyed_from}
-use Rattle.build_groups.specs.Emit.{ids_of, Output, output_of, emit, emit_all}
+use Rattle.build_groups.specs.Emit.{ids_of, Output, going, Gives, output_of, emit, emit_all}
 use Rattle.build_keys.specs.Walk.{with_id, rest_of, chosen, keyed_of, WalkFit, WalkDone}
 use Rattle.build_groups.specs.declared.Purpose.{Purpose}
-use Rattle.build_groups.specs.declared.Progress.{Progress}
+use Rattle.build_groups.specs.declared.Work.{Work}
+use Rattle.build_groups.specs.Emit.{Progress}
+use Rattle.build_groups.specs.declared.Tally.{Tally}
 use Rattle.build_edges.proofs.Nearby.{labelled-strict}
 use Rattle.build_groups.proofs.Emitting.{emit-stopped}
 use Rattle.build_neighbours.proofs.Pairing.{labelled-below}
@@ -80,15 +84,15 @@ pub labels-fall : (left left' : Labels) → (left.first ≡ 0 → ⊥) → left'
 labels-fall left left' h e = ap length (labels-next left.first left.second left.third h) ∙ ap (λ l. suc (length (labels_in l))) (sym e)
 
 -- one level deeper
-module _ {task : Purpose} {nodes joined starts edges begins : List ℕ} {l : ℕ} {left left' : Labels} {key key' : Key} {at : ℕ} {list list' one two two' none' a b b' empty' store room room' : List ℕ} where
-  pub fit-next : (u : ℕ) (p : ℕ → Bool) → WalkFit task nodes joined starts edges begins l left key at list one two a b store room → (left.first ≡ 0 → ⊥) → key' ≡ with_id key at u → left' ≡ rest_of left
-      → list' ≡ keep p list → length two' ≡ length two → length b' ≡ length b → length room' ≡ length room
-      → WalkFit task nodes joined starts edges begins l left' key' (at + 1) list' two' none' b' empty' store room'
-  fit-next u p f h k r e e₂ eb er =
+module _ {work : Work} {l : ℕ} {left left' : Labels} {key key' : Key} {at : ℕ} {list list' scratch scratch' room room' : List ℕ} where
+  pub fit-next : (u : ℕ) (p : ℕ → Bool) → WalkFit work l left key at list scratch room → (left.first ≡ 0 → ⊥) → key' ≡ with_id key at u → left' ≡ rest_of left
+      → list' ≡ keep p list → length scratch ≤ length scratch' + 131072 → length room' ≡ length room → WalkFit work l left' key' (at + 1) list' scratch' room'
+  fit-next u p f h k r e es er =
       let less : length list' ≤ length list = rw e (keep-most p list) in
       let fall = labels-fall left left' h r in
       let level = f.level in
       let short = f.short in
+      let long = f.long in
       record {
         placed = rw er f.placed;
         held = f.held;
@@ -97,10 +101,12 @@ module _ {task : Purpose} {nodes joined starts edges begins : List ℕ} {l : ℕ
         listed = rw e (listed-keep p f.listed);
         level = omega arith;
         unused = rw k (unused-more key at u (omega arith) f.unused);
-        first = λ z. rw (e₂, eb) (f.second (λ q. z (ap (λ x. x.first) r ∙ q)));
-        second = λ z. absurd (z (ap (λ x. x.second) r ∙ f.third));
-        third = ap (λ x. x.third) r;
+        long = omega arith;
       }
+
+-- with a label left there are the rooms of one level
+pub scratch-here : {work : Work} {l : ℕ} {left : Labels} {key : Key} {at : ℕ} {list scratch room : List ℕ} → WalkFit work l left key at list scratch room → (left.first ≡ 0 → ⊥) → 131072 ≤ length scratch
+scratch-here {left = left} f h = let long = f.long in let fall = labels-fall left (rest_of left) h refl in omega arith
 
 -- ---- all of them
 module _ (task : Purpose) (words store : List ℕ) (c : ℕ) where
@@ -116,21 +122,21 @@ module _ (task : Purpose) (words store : List ℕ) (c : ℕ) where
       ap (λ s. emit_all task words store c s xs) (sym (emit-stopped task words store c (padded no_id x.key) x.list t room h)) ∙ emit_all-stopped t room xs h
 
 -- the keys that go on with this node, and with those of the first label from b on
-abbrev next : Purpose → List ℕ → List ℕ → Labels → Key → ℕ → List ℕ → ℕ → List Keyed
-next task nodes joined left key at list u =
-    keyed_from (word_in joined) (labelled_in nodes) task.above (labels_in (rest_of left)) (chosen key at ++ u ∷ []) (keep (word_in joined u) list)
+abbrev next : ℕ → List ℕ → List ℕ → Labels → Key → ℕ → List ℕ → ℕ → List Keyed
+next above nodes joined left key at list u =
+    keyed_from (word_in joined) (labelled_in nodes) above (labels_in (rest_of left)) (chosen key at ++ u ∷ []) (keep (word_in joined u) list)
 
-abbrev from : Purpose → List ℕ → List ℕ → Labels → Key → ℕ → List ℕ → ℕ → List Keyed
-from task nodes joined left key at list b = flat_map (next task nodes joined left key at list) (keep (leb b) (labelled_in nodes left.first))
+abbrev from : ℕ → List ℕ → List ℕ → Labels → Key → ℕ → List ℕ → ℕ → List Keyed
+from above nodes joined left key at list b = flat_map (next above nodes joined left key at list) (keep (leb b) (labelled_in nodes left.first))
 
 -- a node that is joined with none of the list leads to no key
-none-left : (task : Purpose) (nodes joined : List ℕ) (left : Labels) (key : Key) (at : ℕ) (list : List ℕ) (u : ℕ) → keep (word_in joined u) list ≡ [] → next task nodes joined left key at list u ≡ []
-none-left task nodes joined left key at list u e =
+none-left : (above : ℕ) (nodes joined : List ℕ) (left : Labels) (key : Key) (at : ℕ) (list : List ℕ) (u : ℕ) → keep (word_in joined u) list ≡ [] → next above nodes joined left key at list u ≡ []
+none-left above nodes joined left key at list u e =
     let z : length (keep (word_in joined u) list) ≡ 0 = ap length e in
-    keyed-short (word_in joined) (labelled_in nodes) task.above (labels_in (rest_of left)) (chosen key at ++ u ∷ []) (keep (word_in joined u) list) (omega arith)
+    keyed-short (word_in joined) (labelled_in nodes) above (labels_in (rest_of left)) (chosen key at ++ u ∷ []) (keep (word_in joined u) list) (omega arith)
 
 -- the first i of the n words are those of the nodes below a bound, and these are done
-pub record WalkGoing (task : Purpose) (nodes joined words : List ℕ) (left : Labels) (key : Key) (at : ℕ) (list store : List ℕ) (t₀ : Progress) (room₀ : List ℕ)
+pub record WalkGoing (task : Purpose) (above : ℕ) (nodes joined words : List ℕ) (left : Labels) (key : Key) (at : ℕ) (list store : List ℕ) (t₀ : Progress) (room₀ : List ℕ)
     (run : List ℕ) (n i : ℕ) (t : Progress) (room : List ℕ) : Type 0 where
   pub few : n ≤ 65536
   pub whole : length (take n run) ≡ n
@@ -139,12 +145,12 @@ pub record WalkGoing (task : Purpose) (nodes joined words : List ℕ) (left : La
   pub pairs : Paired nodes joined left.first list (take n run)
   pub bound : ℕ
   pub reached : i ≡ lower (bound * 65536) (take n run)
-  pub todo : emit_all task words store key.constraint (output_of t₀ room₀) (keyed_of task nodes joined left key at list)
-      ≡ emit_all task words store key.constraint (output_of t room) (from task nodes joined left key at list bound)
+  pub todo : emit_all task words store key.constraint (output_of t₀ room₀) (keyed_of above nodes joined left key at list)
+      ≡ emit_all task words store key.constraint (output_of t room) (from above nodes joined left key at list bound)
 
-module _ {task : Purpose} {nodes joined words : List ℕ} {left : Labels} {key : Key} {at : ℕ} {list store : List ℕ} {t₀ : Progress} {room₀ run : List ℕ} where
-  pub begun : (n : ℕ) → task.above < length list → (left.first ≡ 0 → ⊥) → 65536 ≤ length run → (n ≤ 65536) × Paired nodes joined left.first list (take n run)
-      → WalkGoing task nodes joined words left key at list store t₀ room₀ run n 0 t₀ room₀
+module _ {task : Purpose} {above : ℕ} {nodes joined words : List ℕ} {left : Labels} {key : Key} {at : ℕ} {list store : List ℕ} {t₀ : Progress} {room₀ run : List ℕ} where
+  pub begun : (n : ℕ) → above < length list → (left.first ≡ 0 → ⊥) → 65536 ≤ length run → (n ≤ 65536) × Paired nodes joined left.first list (take n run)
+      → WalkGoing task above nodes joined words left key at list store t₀ room₀ run n 0 t₀ room₀
   begun n h k fits r =
       let few = r.0 in
       record {
@@ -157,12 +163,12 @@ module _ {task : Purpose} {nodes joined words : List ℕ} {left : Labels} {key :
         reached = sym (from-nothing r.1);
         todo =
             ap (emit_all task words store key.constraint (output_of t₀ room₀))
-            (ap (λ l. keyed_from (word_in joined) (labelled_in nodes) task.above l (chosen key at) list) (labels-next left.first left.second left.third k)
-            ∙ keyed-on (word_in joined) (labelled_in nodes) task.above left.first (labels_in (rest_of left)) (chosen key at) list h
-            ∙ ap (flat_map (next task nodes joined left key at list)) (sym (keep-high 0 0 (labelled_in nodes left.first) (labelled-strict nodes left.first) (omega arith))));
+            (ap (λ l. keyed_from (word_in joined) (labelled_in nodes) above l (chosen key at) list) (labels-next left.first left.second left.third k)
+            ∙ keyed-on (word_in joined) (labelled_in nodes) above left.first (labels_in (rest_of left)) (chosen key at) list h
+            ∙ ap (flat_map (next above nodes joined left key at list)) (sym (keep-high 0 0 (labelled_in nodes left.first) (labelled-strict nodes left.first) (omega arith))));
       }
 
-  module _ {n i : ℕ} {t : Progress} {room : List ℕ} (g : WalkGoing task nodes joined words left key at list store t₀ room₀ run n i t room) where
+  module _ {n i : ℕ} {t : Progress} {room : List ℕ} (g : WalkGoing task above nodes joined words left key at list store t₀ room₀ run n i t room) where
     pub ascends : Strict (take n run)
     ascends = g.pairs.ascends
 
@@ -194,60 +200,78 @@ module _ {task : Purpose} {nodes joined words : List ℕ} {left : Labels} {key :
             let hi = a.1 in
             q ∙ ap (part_told joined list u) (front-part run n i r (omega arith) (omega arith)) ∙ told-part g.pairs g.bound i g.reached u here high r ends
 
-        pub taken : {t' : Progress} {room' list' : List ℕ} {key' : Key} {left' : Labels} → at < 3
-            → key' ≡ with_id key at u → left' ≡ rest_of left → list' ≡ keep (word_in joined u) list
-            → WalkDone task nodes joined words left' key' (at + 1) list' store t room t' room' → WalkGoing task nodes joined words left key at list store t₀ room₀ run n r t' room'
-        taken {t'} {room'} {list'} {key'} {left'} b k l m d =
-            let c : key'.constraint ≡ key.constraint = ap (λ x. x.constraint) k ∙ with-constraint key at u in
-            let ids : chosen key' (at + 1) ≡ chosen key at ++ u ∷ [] = ap (λ x. chosen x (at + 1)) k ∙ chosen-more key at u b in
-            let f = rw (c, ids, m, l) at d.all in
-            let w = g.whole in
-            let top = lower-within ((u + 1) * 65536) (take n run) in
-            let end = ends in
-            let split = flat-split (next task nodes joined left key at list) g.bound u 0 (labelled_in nodes left.first) (labelled-strict nodes left.first)
+        -- what is left is what this node leads to, and then the rest
+        goes : emit_all task words store key.constraint (output_of t₀ room₀) (keyed_of above nodes joined left key at list)
+            ≡ emit_all task words store key.constraint (emit_all task words store key.constraint (output_of t room) (next above nodes joined left key at list u)) (from above nodes joined left key at list (u + 1))
+        goes =
+            let split = flat-split (next above nodes joined left key at list) g.bound u 0 (labelled_in nodes left.first) (labelled-strict nodes left.first)
             (tried g.pairs g.bound i g.reached u here high) (up g.pairs g.bound i g.reached u here high)
-            (λ x q y z. none-left task nodes joined left key at list x (passed g.pairs g.bound i g.reached u here high x q y z)) in
-            let rest = from task nodes joined left key at list (u + 1) in
-            record {
-              few = g.few;
-              whole = g.whole;
-              inside = g.inside;
-              ahead = omega arith;
-              pairs = g.pairs;
-              bound = u + 1;
-              reached = ends;
-              todo =
-                  g.todo ∙ ap (emit_all task words store key.constraint (output_of t room)) split
-                  ∙ emit_all-append task words store key.constraint (output_of t room) (next task nodes joined left key at list u) rest
-                  ∙ ap (λ s. emit_all task words store key.constraint s rest) (sym f);
-            }
+            (λ x q y z. none-left above nodes joined left key at list x (passed g.pairs g.bound i g.reached u here high x q y z)) in
+            g.todo ∙ ap (emit_all task words store key.constraint (output_of t room)) split
+            ∙ emit_all-append task words store key.constraint (output_of t room) (next above nodes joined left key at list u) (from above nodes joined left key at list (u + 1))
 
-    pub stopped : t.stopped ≡ true → WalkDone task nodes joined words left key at list store t₀ room₀ t room
-    stopped h = record { all = sym (g.todo ∙ emit_all-stopped task words store key.constraint t room _ h) }
+        module _ {room' list' : List ℕ} {key' : Key} {left' : Labels} (b : at < 3) (k : key' ≡ with_id key at u) (l : left' ≡ rest_of left) (m : list' ≡ keep (word_in joined u) list) where
+          given : {o : Option Tally} → WalkDone task above nodes joined words left' key' (at + 1) list' store t room o room'
+              → Gives o room' (emit_all task words store key.constraint (output_of t room) (next above nodes joined left key at list u))
+          given d =
+              let c : key'.constraint ≡ key.constraint = ap (λ x. x.constraint) k ∙ with-constraint key at u in
+              let ids : chosen key' (at + 1) ≡ chosen key at ++ u ∷ [] = ap (λ x. chosen x (at + 1)) k ∙ chosen-more key at u b in
+              rw (c, ids, m, l) at d.all
 
-    pub ended : n ≤ i → WalkDone task nodes joined words left key at list store t₀ room₀ t room
+          pub taken : {t' : Tally} → WalkDone task above nodes joined words left' key' (at + 1) list' store t room (Some t') room'
+              → WalkGoing task above nodes joined words left key at list store t₀ room₀ run n r (going t') room'
+          taken {t'} d =
+              let f : output_of (going t') room' ≡ emit_all task words store key.constraint (output_of t room) (next above nodes joined left key at list u) = given d in
+              let w = g.whole in
+              let top = lower-within ((u + 1) * 65536) (take n run) in
+              let end = ends in
+              record {
+                few = g.few;
+                whole = g.whole;
+                inside = g.inside;
+                ahead = omega arith;
+                pairs = g.pairs;
+                bound = u + 1;
+                reached = ends;
+                todo = goes ∙ ap (λ s. emit_all task words store key.constraint s (from above nodes joined left key at list (u + 1))) (sym f);
+              }
+
+          pub broken : WalkDone task above nodes joined words left' key' (at + 1) list' store t room None room' → WalkDone task above nodes joined words left key at list store t₀ room₀ None room'
+          broken d =
+              let s = emit_all task words store key.constraint (output_of t room) (next above nodes joined left key at list u) in
+              let f : (s.tally.stopped ≡ true) × (room' ≡ s.room) = given d in
+              let e = goes ∙ emit_all-stopped task words store key.constraint s.tally s.room (from above nodes joined left key at list (u + 1)) f.0 in
+              record { all = (ap (λ x. x.tally.stopped) e ∙ f.0, f.1 ∙ sym (ap (λ x. x.room) e)) }
+
+    pub ended : {t' : Tally} → going t' ≡ t → n ≤ i → WalkDone task above nodes joined words left key at list store t₀ room₀ (Some t') room
     unfolding emit_all
-    ended h =
+    ended e h =
         let w = g.whole in
         record {
-          all = sym (g.todo ∙ ap (emit_all task words store key.constraint (output_of t room))
-              (flat-none (next task nodes joined left key at list) g.bound (labelled_in nodes left.first)
-              (λ x q y. none-left task nodes joined left key at list x (end-none g.pairs g.bound i g.reached (omega arith) x q y))));
+          all = ap (λ x. output_of x room) e ∙ sym (g.todo ∙ ap (emit_all task words store key.constraint (output_of t room))
+              (flat-none (next above nodes joined left key at list) g.bound (labelled_in nodes left.first)
+              (λ x q y. none-left above nodes joined left key at list x (end-none g.pairs g.bound i g.reached (omega arith) x q y))));
         }
 
-module _ {task : Purpose} {nodes joined words : List ℕ} {left : Labels} {key : Key} {at : ℕ} {list store : List ℕ} {t₀ : Progress} {room₀ : List ℕ} where
+module _ {task : Purpose} {above : ℕ} {nodes joined words : List ℕ} {left : Labels} {key : Key} {at : ℕ} {list store : List ℕ} {t₀ : Progress} {room₀ : List ℕ} where
   -- a list that is too short, and a key that is whole
-  pub none : length list ≤ task.above → WalkDone task nodes joined words left key at list store t₀ room₀ t₀ room₀
+  pub none : {t : Tally} → going t ≡ t₀ → length list ≤ above → WalkDone task above nodes joined words left key at list store t₀ room₀ (Some t) room₀
   unfolding emit_all
-  none h = record { all = sym (ap (emit_all task words store key.constraint (output_of t₀ room₀)) (keyed-short (word_in joined) (labelled_in nodes) task.above (labels_in left) (chosen key at) list h)) }
-
-  pub whole : {t : Progress} {room : List ℕ} → task.above < length list → left.first ≡ 0 → padded no_id (chosen key at) ≡ ids_of key
-      → output_of t room ≡ emit task words store (output_of t₀ room₀) key.constraint (ids_of key) list → WalkDone task nodes joined words left key at list store t₀ room₀ t room
-  unfolding emit_all
-  whole h z e d = record {
+  none e h = record {
     all =
-        d ∙ ap (λ ids. emit task words store (output_of t₀ room₀) key.constraint ids list) (sym e)
+        ap (λ x. output_of x room₀) e
+        ∙ sym (ap (emit_all task words store key.constraint (output_of t₀ room₀)) (keyed-short (word_in joined) (labelled_in nodes) above (labels_in left) (chosen key at) list h));
+  }
+
+  pub whole : {r : Option Tally} {room : List ℕ} → above < length list → left.first ≡ 0 → padded no_id (chosen key at) ≡ ids_of key
+      → Gives r room (emit task words store (output_of t₀ room₀) key.constraint (ids_of key) list) → WalkDone task above nodes joined words left key at list store t₀ room₀ r room
+  unfolding emit_all
+  whole {r} {room} h z e d = record {
+    all =
+        subst (Gives r room)
+        (ap (λ ids. emit task words store (output_of t₀ room₀) key.constraint ids list) (sym e)
         ∙ sym (ap (emit_all task words store key.constraint (output_of t₀ room₀))
-        (ap (λ l. keyed_from (word_in joined) (labelled_in nodes) task.above l (chosen key at) list) (labels-none left.first left.second left.third z)
-        ∙ keyed-here (word_in joined) (labelled_in nodes) task.above (chosen key at) list h));
+        (ap (λ l. keyed_from (word_in joined) (labelled_in nodes) above l (chosen key at) list) (labels-none left.first left.second left.third z)
+        ∙ keyed-here (word_in joined) (labelled_in nodes) above (chosen key at) list h)))
+        d;
   }

@@ -2,7 +2,7 @@
 use native.Mathlib.Omega.{arith}
 use native.Mathlib.Decide.{dec_le}
 use mathlib.Core.Path.{◌≡◌, refl, sym, ap, ◌∙◌}
-use mathlib.Core.Bool.{true, false, not, ◌&&◌, ◌||◌, true≢false}
+use mathlib.Core.Bool.{Bool, true, false, not, ◌&&◌, ◌||◌, true≢false}
 use mathlib.Core.List.{List, [], ◌∷◌, ◌++◌, map, flat_map, map-append, map-map}
 use Prim.Native.Nat.{ℕ, zero, suc, ◌+◌, ◌-◌, ◌≤◌, ◌<◌}
 use lib.Dec.{eqb, ltb}
@@ -23,10 +23,15 @@ use Rattle.build_edges.specs.Packed.{EdgesBelow, forward_words, word_in, labelle
 use Rattle.build_edges.specs.Sound.{joined_set, Sound}
 use Rattle.build_neighbours.specs.Left.{labels_left}
 use Rattle.build_groups.specs.Keyed.{keyed_from}
-use Rattle.build_groups.specs.Emit.{output_of, Placed}
+use Rattle.build_groups.specs.Emit.{Output, Gives, output_of, Placed}
 use Rattle.build_keys.specs.Pass.{above_for, keyed_by, Right, nothing, passed}
+use Rattle.build_groups.specs.declared.Deed.{Deed}
+use Rattle.build_groups.specs.declared.Deed.TheVariants.{Count, Write, Compare}
 use Rattle.build_groups.specs.declared.Purpose.{Purpose}
-use Rattle.build_groups.specs.declared.Progress.{Progress}
+use Rattle.build_groups.specs.declared.Tally.{Tally}
+use Rattle.std.specs.Option.{MatchOption, is_none, is_some}
+use Rattle.std.specs.declared.option.Option.{Option}
+use Rattle.std.specs.declared.option.Option.TheVariants.{None, Some}
 use Rattle.build_edges.proofs.Edges.{less-word, words-strict}
 use Rattle.build_keys.proofs.Groups.{keyed_in, to_group, groups-of, satisfies-keyed}
 use Rattle.build_keys.proofs.Graphs.{graph-joined, graph-labelled, labels-of}
@@ -99,20 +104,20 @@ module _ (task : Purpose) (nodes edges : List ℕ) (below : EdgesBelow edges) wh
   unfolding keyed_by
   keyed-by d h = keyed-any nodes edges below (above_for task d) d h
 
-  above-zero : task.above ≡ 0 → (d : Constraint) → above_for task d ≡ 0
+  above-zero : task.above_most ≡ false → (d : Constraint) → above_for task d ≡ 0
   unfolding above_for
-  above-zero z d = rw (eq-eqb task.above 0 z)
+  above-zero z d = rw z
 
-  above-most : (task.above ≡ 0 → ⊥) → (d : Constraint) → above_for task d ≡ d.most
+  above-most : task.above_most ≡ true → (d : Constraint) → above_for task d ≡ d.most
   unfolding above_for
-  above-most z d = rw (ne_eqb task.above 0 z)
+  above-most z d = rw z
 
   module _ (words store constraints : List ℕ) (right : (c : ℕ) → c < constraints_in constraints → constraint_alone (constraint_at constraints c) ≡ true) where
     abbrev items : ℕ → ℕ → List Item
     items k n = items_from task words store nodes (joined_set edges) constraints k n
 
     -- with all lists that are not empty, they are the groups
-    pub items-groups : task.above ≡ 0 → (k n : ℕ) → k + n ≤ constraints_in constraints
+    pub items-groups : task.above_most ≡ false → (k n : ℕ) → k + n ≤ constraints_in constraints
         → map (group_for (graph_of nodes edges)) (items k n) ≡ flat_map (λ c. groups_of (graph_of nodes edges) (constraint_at constraints c) c) (range k n)
     unfolding range flat_map items_from group_for
     items-groups z k zero h = refl
@@ -126,7 +131,7 @@ module _ (task : Purpose) (nodes edges : List ℕ) (below : EdgesBelow edges) wh
         ∙ ap (λ l. groups_of g d k ++ l) (items-groups z (k + 1) n (omega arith))
 
     -- with lists above N alone, there are none where no list is
-    pub items-none : (task.above ≡ 0 → ⊥) → (k n : ℕ) → k + n ≤ constraints_in constraints
+    pub items-none : task.above_most ≡ true → (k n : ℕ) → k + n ≤ constraints_in constraints
         → all (λ c. satisfies (graph_of nodes edges) (constraint_at constraints c)) (range k n) ≡ eqb (length (items k n)) 0
     unfolding range flat_map items_from all
     items-none z k zero h = refl
@@ -166,20 +171,20 @@ module _ {s : List ℕ} (right : Right s) where
     unfolding passed items_of
     passed-items room = visited-items task (forward_words (edge_part s)) store (node_part s) (joined_set (edge_part s)) (constraint_part s) (output_of nothing room)
 
-    pub index-items : task.above ≡ 0 → map (group_for (store_graph s)) items_of ≡ store_index s
+    pub index-items : task.above_most ≡ false → map (group_for (store_graph s)) items_of ≡ store_index s
     unfolding store_index index_of store_graph items_of
     index-items z =
         items-groups task (node_part s) (edge_part s) right-sound.below (forward_words (edge_part s)) store (constraint_part s) each-constraint z 0 (constraints_in (constraint_part s)) (omega arith)
 
-    pub exceeds-items : (task.above ≡ 0 → ⊥) → exceeds s ≡ not (eqb (length items_of) 0)
+    pub exceeds-items : task.above_most ≡ true → exceeds s ≡ not (eqb (length items_of) 0)
     unfolding exceeds store_graph items_of some_exceeds
     exceeds-items z =
         ap not (items-none task (node_part s) (edge_part s) right-sound.below (forward_words (edge_part s)) store (constraint_part s) each-constraint z 0 (constraints_in (constraint_part s)) (omega arith))
 
-    pub index-length : task.above ≡ 0 → length (store_index s) ≡ length items_of
+    pub index-length : task.above_most ≡ false → length (store_index s) ≡ length items_of
     index-length z = ap length (sym (index-items z)) ∙ length-map items_of (group_for (store_graph s))
 
-    pub index-total : task.above ≡ 0 → entry_total (store_index s) ≡ total items_of
+    pub index-total : task.above_most ≡ false → entry_total (store_index s) ≡ total items_of
     index-total z = ap entry_total (sym (index-items z)) ∙ total-groups (store_graph s) items_of
 
 -- ---- counting
@@ -188,16 +193,42 @@ unfolding total
 none-total [] h = refl
 none-total (x ∷ xs) h = absurd (omega arith)
 
-pub placed-count : (task : Purpose) (a b : ℕ) → task.mode ≡ 0 → Placed task a b
-placed-count task a b z = record { writes = λ o. let q : ◌≡◌ {A = ℕ} 0 1 = sym z ∙ o in absurd (omega arith); reads = λ n o. absurd (n z) }
+abbrev counts : Deed → Bool
+counts Count = true
+counts Write = false
+counts Compare = false
+
+abbrev writes : Deed → Bool
+writes Count = false
+writes Write = true
+writes Compare = false
+
+pub write-compare : Write ≡ Compare → ⊥
+write-compare e = true≢false (ap writes e)
+
+pub placed-count : (task : Purpose) (a b : ℕ) → task.deed ≡ Count → Placed task a b
+placed-count task a b z = record { writes = λ o. absurd (true≢false (ap counts (sym z ∙ o))); reads = λ o. absurd (true≢false (ap counts (sym z ∙ o))) }
 
 abbrev pub exceed_task : Purpose
-exceed_task = record { mode = 0; above = 1; groups = 0; entries = 1048576; table = 0; lists = 0 }
+exceed_task = record { deed = Count; above_most = true; groups = 0; entries = 1048576; table = 0; lists = 0 }
 
 abbrev pub count_task : Purpose
-count_task = record { mode = 0; above = 0; groups = 262144; entries = 1048576; table = 0; lists = 0 }
+count_task = record { deed = Count; above_most = false; groups = 262144; entries = 1048576; table = 0; lists = 0 }
 
-pub exceeds-told : {s : List ℕ} → Right s → (r : Progress) (room room' : List ℕ) → output_of r room' ≡ passed exceed_task s s room → r.stopped ≡ exceeds s
+-- whether a walk stopped, by what it gave
+pub stopped-told : (r : Option Tally) (room : List ℕ) (s : Output) → Gives r room s → is_none r ≡ s.tally.stopped
+stopped-told None room s d = sym d.0
+stopped-told (Some t) room s d = ap (λ x. x.tally.stopped) d
+
+pub going-told : (r : Option Tally) (room : List ℕ) (s : Output) → Gives r room s → is_some r ≡ not s.tally.stopped
+going-told None room s d = ap not (sym d.0)
+going-told (Some t) room s d = ap (λ x. not x.tally.stopped) d
+
+pub room-told : (r : Option Tally) (room : List ℕ) (s : Output) → Gives r room s → room ≡ s.room
+room-told None room s d = d.1
+room-told (Some t) room s d = ap (λ x. x.room) d
+
+pub exceeds-told : {s : List ℕ} → Right s → (r : Option Tally) (room room' : List ℕ) → Gives r room' (passed exceed_task s s room) → is_none r ≡ exceeds s
 exceeds-told {s} right r room room' e = go (dec_le (length xs) 0)
   where
     xs : List Item
@@ -206,23 +237,35 @@ exceeds-told {s} right r room room' e = go (dec_le (length xs) 0)
     words : List ℕ
     words = forward_words (edge_part s)
 
-    e' : r.stopped ≡ (emit_items exceed_task words s (output_of nothing room) xs).tally.stopped
-    e' = ap (λ x. x.tally.stopped) (e ∙ passed-items right exceed_task s room)
+    e' : is_none r ≡ (emit_items exceed_task words s (output_of nothing room) xs).tally.stopped
+    e' = stopped-told r room' (passed exceed_task s s room) e ∙ ap (λ x. x.tally.stopped) (passed-items right exceed_task s room)
 
     x : exceeds s ≡ not (eqb (length xs) 0)
-    x = exceeds-items right exceed_task s (λ z. omega arith)
+    x = exceeds-items right exceed_task s refl
 
-    go : Dec (length xs ≤ 0) → r.stopped ≡ exceeds s
+    go : Dec (length xs ≤ 0) → is_none r ≡ exceeds s
     go (yes h) =
         let t = none-total xs h in
         e' ∙ ap (λ y. y.tally.stopped) (count-fits exceed_task words s refl 0 0 room xs (omega arith) (omega arith)) ∙ sym (x ∙ ap not (eq-eqb (length xs) 0 (omega arith)))
     go (no h) =
         e' ∙ count-over exceed_task words s refl 0 0 room xs (omega arith) (omega arith) (λ a b. h (omega arith)) ∙ sym (x ∙ ap not (ne_eqb (length xs) 0 (λ z. h (omega arith))))
 
-pub count-told : {s : List ℕ} → Right s → (r : Progress) (room room' : List ℕ) → output_of r room' ≡ passed count_task s s room
-    → (r.stopped ≡ too_many s) × (r.stopped ≡ false → (r.groups ≡ length (store_index s)) × (r.entries ≡ entry_total (store_index s)))
+abbrev Counted : List ℕ → Option Tally → Type 0
+Counted s r = MatchOption r (too_many s ≡ true) (λ t. (too_many s ≡ false) × ((t.groups ≡ length (store_index s)) × (t.entries ≡ entry_total (store_index s))))
+
+-- a walk that has stopped, and one that has not, by what it came to
+counted-by : (s : List ℕ) (r : Option Tally) (room : List ℕ) (o : Output) → Gives r room o → o.tally.stopped ≡ too_many s
+    → (o.tally.stopped ≡ false → (o.tally.groups ≡ length (store_index s)) × (o.tally.entries ≡ entry_total (store_index s))) → Counted s r
+counted-by s None room o d h k = sym h ∙ d.0
+counted-by s (Some t) room o d h k =
+    let e : false ≡ o.tally.stopped = ap (λ x. x.tally.stopped) d in
+    let q = k (sym e) in
+    (sym h ∙ sym e, (ap (λ x. x.tally.groups) d ∙ q.0, ap (λ x. x.tally.entries) d ∙ q.1))
+
+counts-told : {s : List ℕ} → Right s → (room : List ℕ) (o : Output) → o ≡ passed count_task s s room
+    → (o.tally.stopped ≡ too_many s) × (o.tally.stopped ≡ false → (o.tally.groups ≡ length (store_index s)) × (o.tally.entries ≡ entry_total (store_index s)))
 unfolding too_many too_large
-count-told {s} right r room room' e = go (dec_le (length xs) 262144) (dec_le (total xs) 1048576)
+counts-told {s} right room o e = go (dec_le (length xs) 262144) (dec_le (total xs) 1048576)
   where
     xs : List Item
     xs = items_of right count_task s
@@ -230,7 +273,7 @@ count-told {s} right r room room' e = go (dec_le (length xs) 262144) (dec_le (to
     words : List ℕ
     words = forward_words (edge_part s)
 
-    e' : output_of r room' ≡ emit_items count_task words s (output_of nothing room) xs
+    e' : o ≡ emit_items count_task words s (output_of nothing room) xs
     e' = e ∙ passed-items right count_task s room
 
     n : length (store_index s) ≡ length xs
@@ -240,19 +283,25 @@ count-told {s} right r room room' e = go (dec_le (length xs) 262144) (dec_le (to
     m = index-total right count_task s refl
 
     over : ((0 + length xs ≤ 262144) → (0 + total xs ≤ 1048576) → ⊥) → (ltb most_groups (length (store_index s)) || ltb most_entries (entry_total (store_index s))) ≡ true
-        → (r.stopped ≡ (ltb most_groups (length (store_index s)) || ltb most_entries (entry_total (store_index s)))) × (r.stopped ≡ false → (r.groups ≡ length (store_index s)) × (r.entries ≡ entry_total (store_index s)))
+        → (o.tally.stopped ≡ (ltb most_groups (length (store_index s)) || ltb most_entries (entry_total (store_index s)))) × (o.tally.stopped ≡ false → (o.tally.groups ≡ length (store_index s)) × (o.tally.entries ≡ entry_total (store_index s)))
     over f q =
-        let st : r.stopped ≡ true = ap (λ x. x.tally.stopped) e' ∙ count-over count_task words s refl 0 0 room xs (omega arith) (omega arith) f in
+        let st : o.tally.stopped ≡ true = ap (λ x. x.tally.stopped) e' ∙ count-over count_task words s refl 0 0 room xs (omega arith) (omega arith) f in
         (st ∙ sym q, λ z. absurd (true≢false (sym st ∙ z)))
 
     go : Dec (length xs ≤ 262144) → Dec (total xs ≤ 1048576)
-        → (r.stopped ≡ (ltb most_groups (length (store_index s)) || ltb most_entries (entry_total (store_index s)))) × (r.stopped ≡ false → (r.groups ≡ length (store_index s)) × (r.entries ≡ entry_total (store_index s)))
+        → (o.tally.stopped ≡ (ltb most_groups (length (store_index s)) || ltb most_entries (entry_total (store_index s)))) × (o.tally.stopped ≡ false → (o.tally.groups ≡ length (store_index s)) × (o.tally.entries ≡ entry_total (store_index s)))
     go (yes h) (yes k) =
         let f = e' ∙ count-fits count_task words s refl 0 0 room xs (omega arith) (omega arith) in
-        let g : r.groups ≡ 0 + length xs = ap (λ x. x.tally.groups) f in
-        let t : r.entries ≡ 0 + total xs = ap (λ x. x.tally.entries) f in (
+        let g : o.tally.groups ≡ 0 + length xs = ap (λ x. x.tally.groups) f in
+        let t : o.tally.entries ≡ 0 + total xs = ap (λ x. x.tally.entries) f in (
           ap (λ x. x.tally.stopped) f ∙ sym (rw (le-ltb most_groups (length (store_index s)) (omega (arith, n)), le-ltb most_entries (entry_total (store_index s)) (omega (arith, m)))),
           λ z. (omega (arith, n), omega (arith, m)),
         )
     go (yes h) (no k) = over (λ a b. k (omega arith)) (rw (le-ltb most_groups (length (store_index s)) (omega (arith, n)), lt-ltb most_entries (entry_total (store_index s)) (omega (arith, m))))
     go (no h) k = over (λ a b. h (omega arith)) (rw (lt-ltb most_groups (length (store_index s)) (omega (arith, n))))
+
+pub count-told : {s : List ℕ} → Right s → (r : Option Tally) (room room' : List ℕ) → Gives r room' (passed count_task s s room)
+    → MatchOption r (too_many s ≡ true) (λ t. (too_many s ≡ false) × ((t.groups ≡ length (store_index s)) × (t.entries ≡ entry_total (store_index s))))
+count-told {s} right r room room' d =
+    let q = counts-told right room (passed count_task s s room) refl in
+    counted-by s r room' (passed count_task s s room) d q.0 q.1

@@ -15,15 +15,15 @@ use Rattle.rules.specs.Store.{constraints_in, constraint_at}
 use Rattle.rules.specs.Words.{u32_bytes, encoded}
 use Rattle.rules.specs.Graph.{Graph}
 use Rattle.rules.specs.Index.{no_id, Group, directions_of, group_bytes, list_bytes, entry_bytes}
-use Rattle.rules.specs.declared.Constraint.{Constraint}
 use Rattle.rules.specs.declared.Entry.{Entry}
 use Rattle.laws.specs.Cases.{first-holds, second-holds}
 use Rattle.build_edges.specs.Packed.{word_in}
 use Rattle.build_groups.specs.Keyed.{Keyed}
-use Rattle.build_groups.specs.Emit.{bits_of, dirs_of, group_record, entry_record, list_records, Output, output_of, within, counted, written, agrees, emit_by, emit, emit_all}
-use Rattle.build_keys.specs.Pass.{task_for, keyed_by, visited, visited_all}
+use Rattle.build_groups.specs.Emit.{bits_of, dirs_of, group_record, entry_record, list_records, Output, output_of, within, counted, emit, emit_all}
+use Rattle.build_keys.specs.Pass.{keyed_by, visited, visited_all}
+use Rattle.build_groups.specs.declared.Deed.TheVariants.{Count}
 use Rattle.build_groups.specs.declared.Purpose.{Purpose}
-use Rattle.build_groups.specs.declared.Progress.{Progress}
+use Rattle.build_groups.specs.Emit.{Progress}
 use Rattle.build_groups.proofs.Records.{length-records}
 use Rattle.build_keys.proofs.Groups.{to_group}
 use Rattle.build_groups.proofs.Emitting.{emit-stopped, emit-over, emit-count}
@@ -57,16 +57,10 @@ module _ (task : Purpose) (words store : List ℕ) where
   items-append s [] ys = refl
   items-append s (x ∷ xs) ys = items-append (emit task words store s x.constraint (ids_in x) (list_in x)) xs ys
 
-  -- the bound on lists doesn't matter once the keys are found
-  same-emit : (d : Constraint) (s : Output) (c : ℕ) (ids list : List ℕ) → emit (task_for task d) words store s c ids list ≡ emit task words store s c ids list
-  unfolding emit emit_by within written agrees
-  same-emit d s c ids list = refl
-
-  items-all : (d : Constraint) (c : ℕ) (s : Output) (xs : List Keyed) → emit_all (task_for task d) words store c s xs ≡ emit_items s (map (item c) xs)
+  items-all : (c : ℕ) (s : Output) (xs : List Keyed) → emit_all task words store c s xs ≡ emit_items s (map (item c) xs)
   unfolding emit_all emit_items
-  items-all d c s [] = refl
-  items-all d c s (x ∷ xs) =
-      ap (λ r. emit_all (task_for task d) words store c r xs) (same-emit d s c (padded no_id x.key) x.list) ∙ items-all d c (emit task words store s c (padded no_id x.key) x.list) xs
+  items-all c s [] = refl
+  items-all c s (x ∷ xs) = items-all c (emit task words store s c (padded no_id x.key) x.list) xs
 
   module _ (nodes joined constraints : List ℕ) where
     -- all items, by constraint
@@ -79,7 +73,7 @@ module _ (task : Purpose) (words store : List ℕ) where
     fold-items k (suc n) s =
         let xs = map (item k) (keyed_by task nodes joined (constraint_at constraints k)) in
         fold-items (k + 1) n (visited task nodes joined words constraints store k s)
-        ∙ ap (λ r. emit_items r (items_from (k + 1) n)) (items-all (constraint_at constraints k) k s (keyed_by task nodes joined (constraint_at constraints k)))
+        ∙ ap (λ r. emit_items r (items_from (k + 1) n)) (items-all k s (keyed_by task nodes joined (constraint_at constraints k)))
         ∙ sym (items-append s xs (items_from (k + 1) n))
 
     pub visited-items : (s : Output) → visited_all task nodes joined words constraints store s ≡ emit_items s (items_from 0 (constraints_in constraints))
@@ -105,7 +99,7 @@ module _ (task : Purpose) (words store : List ℕ) where
   outside-entries t n e = rw (lt-leb (t.entries + n) task.entries e) (and-false (ltb t.groups task.groups))
 
   -- counting, where all are within the bounds
-  module _ (mode : task.mode ≡ 0) where
+  module _ (deed : task.deed ≡ Count) where
     pub count-fits : (g e : ℕ) (room : List ℕ) (xs : List Item) → g + length xs ≤ task.groups → e + total xs ≤ task.entries
         → emit_items (output_of (record { groups = g; entries = e; stopped = false }) room) xs ≡ output_of (record { groups = g + length xs; entries = e + total xs; stopped = false }) room
     unfolding emit_items total
@@ -114,7 +108,7 @@ module _ (task : Purpose) (words store : List ℕ) where
         let t : Progress = record { groups = g; entries = e; stopped = false } in
         let n = length (list_in x) in
         let w : within task t n ≡ true = inside t n (omega arith) (omega arith) in
-        let one = emit-count task words store x.constraint (ids_in x) (list_in x) t room true refl (sym w) refl {t' = counted t n false} mode refl in
+        let one = emit-count task words store x.constraint (ids_in x) (list_in x) t room true refl (sym w) refl {t' = counted t n false} deed refl in
         let rest = count-fits (g + 1) (e + n) room xs (omega arith) (omega arith) in
         let eg : g + 1 + length xs ≡ g + suc (length xs) = omega arith in
         let ee : e + n + total xs ≡ e + (n + total xs) = omega arith in
@@ -146,7 +140,7 @@ module _ (task : Purpose) (words store : List ℕ) where
             → (emit_items (output_of (record { groups = g + 1; entries = e + n; stopped = false }) room) xs).tally.stopped ≡ true) → Goal
         go (yes a) (yes b) ih =
             let w : within task t n ≡ true = inside t n (omega arith) b in
-            let one = emit-count task words store x.constraint (ids_in x) (list_in x) t room true refl (sym w) refl {t' = counted t n false} mode refl in
+            let one = emit-count task words store x.constraint (ids_in x) (list_in x) t room true refl (sym w) refl {t' = counted t n false} deed refl in
             ap (λ s. (emit_items s xs).tally.stopped) (sym one) ∙ ih a b (λ p q. f (omega arith) (omega arith))
         go (yes a) (no b) ih = stops (outside-entries t n (omega arith))
         go (no a) b ih = stops (outside-groups t n (omega arith))

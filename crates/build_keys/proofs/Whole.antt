@@ -15,8 +15,9 @@ use Rattle.rules.specs.Answers.{same}
 use Rattle.laws.specs.Over.{over-over, over-nil, length-over}
 use Rattle.laws.specs.Cases.{first-holds, second-holds}
 use Rattle.build_groups.specs.Emit.{group_record, list_records, output_of, within, counted, written, agrees, emit}
+use Rattle.build_groups.specs.declared.Deed.TheVariants.{Write, Compare}
 use Rattle.build_groups.specs.declared.Purpose.{Purpose}
-use Rattle.build_groups.specs.declared.Progress.{Progress}
+use Rattle.build_groups.specs.Emit.{Progress}
 use Rattle.build_groups.proofs.Records.{length-records}
 use Rattle.laws.specs.Same.{same-append}
 use Rattle.laws.specs.Parts.{part-add}
@@ -120,13 +121,13 @@ module _ (task : Purpose) {g : Graph} {words : List ℕ} (told : Told g words) (
       length-over (over room (task.table + t.groups * 24) gr) (task.lists + t.entries * 8) er (omega arith) ∙ a
 
   -- the groups from number n on, whose entries start at e, written one after another
-  pub write-fits : task.mode ≡ 1 → task.table + task.groups * 24 ≤ task.lists → (n e : ℕ) (room : List ℕ) (xs : List Item) → all short xs ≡ true
+  pub write-fits : task.deed ≡ Write → task.table + task.groups * 24 ≤ task.lists → (n e : ℕ) (room : List ℕ) (xs : List Item) → all short xs ≡ true
       → n + length xs ≤ task.groups → e + total xs ≤ task.entries → task.lists + task.entries * 8 ≤ length room
       → emit_items task words store (output_of (start n e) room) xs
       ≡ output_of (start (n + length xs) (e + total xs)) (over (over room (task.table + n * 24) (group_bytes e (map (group_for g) xs))) (task.lists + e * 8) (entry_bytes (map (group_for g) xs)))
   unfolding emit_items total all group_bytes entry_bytes flat_map
-  write-fits mode apart n e room [] sh hg he fits = rw (add-zero, add-zero, over-nil, over-nil)
-  write-fits mode apart n e room (x ∷ xs) sh hg he fits =
+  write-fits deed apart n e room [] sh hg he fits = rw (add-zero, add-zero, over-nil, over-nil)
+  write-fits deed apart n e room (x ∷ xs) sh hg he fits =
       let c = length (list_in x) in
       let sx = first-holds (short x) (all short xs) sh in
       let sxs = second-holds (short x) (all short xs) sh in
@@ -135,8 +136,8 @@ module _ (task : Purpose) {g : Graph} {words : List ℕ} (told : Told g words) (
       let long : length room' ≡ length room = long-written (start n e) room x (omega arith) (omega arith) in
       let one =
       emit-write task words store x.constraint (ids_in x) (list_in x) (start n e) room true refl (sym w) refl {t' = counted (start n e) c false} {room' = room'}
-      (λ z. let q : ◌≡◌ {A = ℕ} 0 1 = sym z ∙ mode in omega arith) mode refl refl in
-      let ih = write-fits mode apart (n + 1) (e + c) room' xs sxs (omega arith) (omega arith) (omega arith) in
+      deed refl refl in
+      let ih = write-fits deed apart (n + 1) (e + c) room' xs sxs (omega arith) (omega arith) (omega arith) in
       let step = write-step apart n e room x xs sx sxs hg he fits in
       let eg : n + 1 + length xs ≡ n + suc (length xs) = omega arith in
       let ee : e + c + total xs ≡ e + (c + total xs) = omega arith in
@@ -188,19 +189,19 @@ module _ (task : Purpose) {g : Graph} {words : List ℕ} (told : Told g words) (
       rw (i, j, entry-bytes told x xs sh, part-add store at (c * 8) (total xs * 8)) (same-append (part store at (at + c * 8)) (part store (at + c * 8) (at + c * 8 + total xs * 8)) er eb (omega arith))
 
   -- compared one after another with the bytes of the store
-  pub compare-all : (task.mode ≡ 0 → ⊥) → (task.mode ≡ 1 → ⊥) → (n e : ℕ) (room : List ℕ) (xs : List Item) → all short xs ≡ true
+  pub compare-all : task.deed ≡ Compare → (n e : ℕ) (room : List ℕ) (xs : List Item) → all short xs ≡ true
       → n + length xs ≤ task.groups → e + total xs ≤ task.entries → task.table + task.groups * 24 ≤ length store → task.lists + task.entries * 8 ≤ length store
       → (emit_items task words store (output_of (start n e) room) xs).tally.stopped
       ≡ not (same (part store (task.table + n * 24) (task.table + n * 24 + length xs * 24)) (group_bytes e (map (group_for g) xs))
       && same (part store (task.lists + e * 8) (task.lists + e * 8 + total xs * 8)) (entry_bytes (map (group_for g) xs)))
   unfolding emit_items total all group_bytes entry_bytes flat_map same more-groups more-lists
-  compare-all m₀ m₁ n e room [] sh hg he ft fl =
+  compare-all deed n e room [] sh hg he ft fl =
       let a : task.table + n * 24 + 0 * 24 - (task.table + n * 24) ≡ 0 = omega arith in
       let b : task.lists + e * 8 + 0 * 8 - (task.lists + e * 8) ≡ 0 = omega arith in
       rw (a, b)
-  compare-all m₀ m₁ n e room (x ∷ xs) sh hg he ft fl =
+  compare-all deed n e room (x ∷ xs) sh hg he ft fl =
       go (agrees task words x.constraint (ids_in x) (list_in x) (start n e) store) refl
-      (compare-all m₀ m₁ (n + 1) (e + length (list_in x)) room xs (second-holds (short x) (all short xs) sh) (omega arith) (omega arith) ft fl)
+      (compare-all deed (n + 1) (e + length (list_in x)) room xs (second-holds (short x) (all short xs) sh) (omega arith) (omega arith) ft fl)
     where
       c : ℕ
       c = length (list_in x)
@@ -219,7 +220,7 @@ module _ (task : Purpose) {g : Graph} {words : List ℕ} (told : Told g words) (
           → output_of (counted (start n e) c (not a)) room ≡ emit task words store (output_of (start n e) room) x.constraint (ids_in x) (list_in x)
       first a q =
           let w : within task (start n e) c ≡ true = inside task words store (start n e) c (omega arith) (omega arith) in
-          emit-compare task words store x.constraint (ids_in x) (list_in x) (start n e) room true refl (sym w) refl {t' = counted (start n e) c (not a)} m₀ m₁ q refl
+          emit-compare task words store x.constraint (ids_in x) (list_in x) (start n e) room true refl (sym w) refl {t' = counted (start n e) c (not a)} deed q refl
 
       parts : Whole ≡ ((one-group n e x && more-groups n e x xs) && (one-list e x && more-lists e x xs))
       parts =

@@ -1,5 +1,5 @@
 -- A pass over all constraints of a graph.
-use Rattle.std.specs.Prelude.{ℕ, ◌≤◌, ◌≡◌, cond, true, false, List, [], eqb, length}
+use Rattle.std.specs.Prelude.{ℕ, ◌≤◌, ◌≡◌, cond, true, false, List, [], length}
 use Rattle.rules.specs.Lists.{set_of}
 use Rattle.laws.specs.Loops.{fold_from}
 use Rattle.rules.specs.Store.{constraints_in, constraint_at, node_part, edge_part, constraint_part, header_right, records_right, constraints_right}
@@ -12,14 +12,11 @@ use Rattle.build_neighbours.specs.Left.{labels_left}
 use Rattle.build_groups.specs.Keyed.{Keyed, keyed_from}
 use Rattle.build_groups.specs.Emit.{Output, output_of, emit_all}
 use Rattle.build_groups.specs.declared.Purpose.{Purpose}
-use Rattle.build_groups.specs.declared.Progress.{Progress}
+use Rattle.build_groups.specs.Emit.{Progress}
 
 -- lists longer than this: than N where the task asks for it, else all that are not empty
 unfoldable pub above_for : Purpose → Constraint → ℕ
-above_for task d = cond (eqb task.above 0) 0 d.most
-
-abbrev pub task_for : Purpose → Constraint → Purpose
-task_for task d = record { mode = task.mode; above = above_for task d; groups = task.groups; entries = task.entries; table = task.table; lists = task.lists }
+above_for task d = cond task.above_most d.most 0
 
 -- the keys of a constraint, with their lists
 unfoldable pub keyed_by : Purpose → List ℕ → List ℕ → Constraint → List Keyed
@@ -29,7 +26,7 @@ keyed_by task nodes joined d =
 -- they are dealt with
 unfoldable pub visited : Purpose → List ℕ → List ℕ → List ℕ → List ℕ → List ℕ → ℕ → Output → Output
 visited task nodes joined words constraints store c s =
-    emit_all (task_for task (constraint_at constraints c)) words store c s (keyed_by task nodes joined (constraint_at constraints c))
+    emit_all task words store c s (keyed_by task nodes joined (constraint_at constraints c))
 
 unfoldable pub visited_all : Purpose → List ℕ → List ℕ → List ℕ → List ℕ → List ℕ → Output → Output
 visited_all task nodes joined words constraints store s =

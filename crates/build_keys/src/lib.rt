@@ -3,4 +3,4 @@
 
 mod walks;
 
-pub use walks::{rest_of, walk, with_id};
+pub use walks::{Lists, rest_of, walk, with_id};

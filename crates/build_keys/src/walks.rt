@@ -2,10 +2,11 @@
 ghost use Rattle.std.specs.Prelude.{◌≡◌, ◌+◌, ◌<◌};
 ghost use Rattle.rules.specs.Lists.{set_of};
 ghost use Rattle.build_edges.specs.Packed.{forward_words};
+ghost use Rattle.build_groups.specs.Emit.{going};
 ghost use Rattle.build_keys.specs.Walk.{with_id, rest_of, WalkFit, WalkDone};
 
-use build_groups::{Progress, Purpose};
-use build_neighbours::Labels;
+use build_groups::{Tally, Work};
+use build_neighbours::{Labels, Sides};
 use rules::Key;
 
 // The key with u as its id number at.
@@ -13,27 +14,12 @@ pub fn with_id(key: Key, at: u32, u: u32) -> Key
     ensures { result ≡ with_id key at u }
 {
     if at == 0 {
-        return Key {
-            constraint: key.constraint,
-            first: u,
-            second: key.second,
-            third: key.third,
-        };
+        return Key { first: u, ..key };
     }
     if at == 1 {
-        return Key {
-            constraint: key.constraint,
-            first: key.first,
-            second: u,
-            third: key.third,
-        };
+        return Key { second: u, ..key };
     }
-    Key {
-        constraint: key.constraint,
-        first: key.first,
-        second: key.second,
-        third: u,
-    }
+    Key { third: u, ..key }
 }
 
 // The labels after the first.
@@ -47,70 +33,66 @@ pub fn rest_of(left: Labels) -> Labels
     }
 }
 
-// Goes through the keys that begin with the first `at` ids of `key` and go on with nodes of the labels left; `list` is the list of these ids, labelled l.
+// Which lists are gone through: of nodes with this label, and longer than `above`.
+#[derive(Clone, Copy)]
+pub struct Lists {
+    pub label: u16,
+    pub above: u32,
+}
+
+// Goes through the keys that begin with the first `at` ids of `key` and go on with nodes of the labels left; `list` is the list of these ids.
+// For each label left, `scratch` has one room for a list and one for the nodes that are tried: each depth takes the first two, and lends the rest on.
 pub fn walk(
-    task: Purpose,
-    nodes: &[u8],
-    joined: &[u32],
-    starts: &[u32],
-    edges: &[u8],
-    begins: &[u32],
-    l: u16,
+    work: Work,
+    lists: Lists,
     left: Labels,
     key: Key,
     at: u32,
     list: &[u32],
-    one: &mut [u32],
-    two: &mut [u32],
-    first: &mut [u32],
-    second: &mut [u32],
-    store: &[u8],
+    scratch: &mut [u32],
     room: &mut [u8],
-    tally: Progress,
-) -> Progress
-    requires { WalkFit task nodes.now joined.now starts.now edges.now begins.now l left key at list.now one.old two.old first.old second.old store.now room.old }
-    ensures { WalkDone task nodes.now (set_of joined.now) (forward_words edges.now) left key at list.now store.now tally room.old result room.new }
+    tally: Tally,
+) -> Option<Tally>
+    requires { WalkFit work lists.label left key at list.now scratch.old room.old }
+    ensures { WalkDone work.entry.task lists.above work.entry.graph.nodes.now (set_of work.entry.graph.joined.now) (forward_words work.entry.graph.edges.records.now) left key at list.now work.entry.store.now (going tally) room.old result room.new }
 {
-    if list.len() <= task.above as usize {
-        return tally;
+    let Lists { label, above } = lists;
+    if list.len() <= above as usize {
+        return Some(tally);
     }
+    let Work { graph, task, store } = work;
     if left.first == 0 {
-        return build_groups::emit_one(task, edges, begins, key, list, store, room, tally);
+        return build_groups::emit_one(task, graph.edges, key, list, store, room, tally);
     }
-    let n = build_neighbours::paired(nodes, joined, starts, list, left.first, l, first, one);
-    let mut none = [0u32; 1];
-    let mut empty = [0u32; 1];
+    let sides = Sides {
+        nodes: graph.nodes,
+        joined: graph.joined,
+        starts: graph.starts,
+    };
+    let (one, rest) = scratch.split_at_mut(65536);
+    let (first, deeper) = rest.split_at_mut(65536);
+    let n = build_neighbours::paired(sides, list, left.first, label, first, one);
     let mut t = tally;
     let mut i = 0;
+    // Stays a `while`: a turn passes all words of one node, and the next starts behind them.
     while i < n {
-        if t.stopped {
-            return t;
-        }
         let u = first[i] / 65536;
         let end = build_neighbours::run_end(&first[..n], i);
-        let k = build_neighbours::part_of(nodes, joined, starts, list, l, &first[i..end], u, one);
+        let words = &first[i..end];
+        let k = build_neighbours::part_of(sides, list, label, words, u, one);
         i = end;
         let next = with_id(key, at, u);
         t = walk(
-            task,
-            nodes,
-            joined,
-            starts,
-            edges,
-            begins,
-            l,
+            work,
+            lists,
             rest_of(left),
             next,
             at + 1,
             &one[..k],
-            two,
-            &mut none,
-            second,
-            &mut empty,
-            store,
+            deeper,
             room,
             t,
-        );
+        )?;
     }
-    t
+    Some(t)
 }

@@ -6,8 +6,9 @@ use mathlib.Core.Bool.{Bool, true, false, or-false, false≢true}
 use mathlib.Core.List.{List, [], ◌∷◌}
 use Prim.Native.Nat.{ℕ, suc, ◌+◌, ◌%◌, ◌≤◌, ◌<◌}
 use lib.Dec.{eqb, ltb}
-use lib.ListN.{length, drop, get_or, set, length-set, drop_of_length-le}
+use lib.ListN.{length, drop, replicate, get_or, set, length-set, drop_of_length-le}
 use lib.Seq.{get_or-set_same, get_or-set_other}
+use Rattle.std.proofs.lemmas.List.{get_or-replicate}
 use borrow.Author.Tests.{lt-ltb, le-ltb, eq-eqb, ne_eqb}
 use Rattle.rules.specs.Lists.{keep, has}
 use Rattle.laws.specs.Strict.{From, Strict}
@@ -22,7 +23,7 @@ use Rattle.build_edges.specs.Near.{words_of, is_labelled, Joined}
 use Rattle.laws.specs.Lows.{lows}
 use Rattle.build_edges.proofs.Nearby.{either-side, labelled-has}
 use Rattle.build_neighbours.proofs.Pairing.{labelled-below}
-use Rattle.build_longlist.specs.Counting.{long_last, times, Inside, Cleared, Low, Spare, Added, Above}
+use Rattle.build_longlist.specs.Counting.{long_last, times, Inside, Low, Spare, Added, Above}
 
 -- ---- how often a number is met
 times-here : (u v : ℕ) (l : List ℕ) → v ≡ u → times u (v ∷ l) ≡ suc (times u l)
@@ -61,25 +62,6 @@ met {joined} j v u h rest = go (word_in joined v u) refl
         let all = times-near joined v u j.strict h in
         let same : length (keep (word_in joined u) (v ∷ rest)) ≡ length (keep (word_in joined u) rest) = ap length (keep-no (word_in joined u) v rest (j.both u v ∙ e)) in
         omega arith
-
--- ---- the loop of `clear`
-pub record Clearing (first counts : List ℕ) (i : ℕ) : Type 0 where
-  pub ahead : i ≤ 65536
-  pub same : length counts ≡ length first
-  pub none : (u : ℕ) → u < i → get_or counts u 0 ≡ 0
-
-pub clear-start : (counts : List ℕ) → Clearing counts counts 0
-clear-start counts = record { ahead = omega arith; same = refl; none = λ u h. absurd (omega arith) }
-
-pub clear-next : {first counts : List ℕ} {i : ℕ} → Clearing first counts i → 65536 ≤ length first → i < 65536 → Clearing first (set counts i 0) (i + 1)
-clear-next {first} {counts} {i} g long h = record { ahead = omega arith; same = length-set counts i 0 ∙ g.same; none = λ u k. go u k (ℕ_discrete u i) }
-  where
-    go : (u : ℕ) → u < i + 1 → Dec (u ≡ i) → get_or (set counts i 0) u 0 ≡ 0
-    go u k (yes e) = let same = g.same in rw e (get_or-set_same counts i 0 0 (omega arith))
-    go u k (no n) = get_or-set_other counts i u 0 0 n ∙ g.none u (omega arith)
-
-pub clear-done : {first counts : List ℕ} {i : ℕ} → Clearing first counts i → 65536 ≤ i → Cleared counts
-clear-done g h = record { none = λ u k. g.none u (omega arith) }
 
 -- ---- the loop of `count_near`: the first i words are counted, and no node labelled s more than t times
 pub record Meeting (nodes : List ℕ) (s t : ℕ) (words first counts : List ℕ) (i : ℕ) : Type 0 where
@@ -171,11 +153,14 @@ pub record Counting (nodes joined : List ℕ) (s t : ℕ) (list counts : List �
 node-below : (nodes : List ℕ) (s u : ℕ) → is_labelled nodes s u ≡ true → u < nodes_in nodes
 node-below nodes s u l = labelled-below nodes s u (labelled-has nodes s u ∙ l)
 
-pub count-start : {nodes joined : List ℕ} {s t : ℕ} {list counts : List ℕ} → Cleared counts → nodes_in nodes ≤ most_nodes → Counting nodes joined s t list counts 0
-count-start {nodes} {joined} {s} {t} {list} {counts} c few = record {
-  each = λ u h. let z = c.none u h in omega arith;
-  low = record { low = λ u l. let k = node-below nodes s u l in let z = c.none u (omega arith) in omega arith };
+pub count-start : {nodes joined : List ℕ} {s t n : ℕ} {list counts : List ℕ} → counts ≡ replicate n 0 → 65536 ≤ n → nodes_in nodes ≤ most_nodes → Counting nodes joined s t list counts 0
+count-start {nodes} {joined} {s} {t} {n} {list} {counts} c long few = record {
+  each = λ u h. let z = none u h in omega arith;
+  low = record { low = λ u l. let k = node-below nodes s u l in let z = none u (omega arith) in omega arith };
 }
+  where
+    none : (u : ℕ) → u < 65536 → get_or counts u 0 ≡ 0
+    none u h = ap (λ l. get_or l u 0) c ∙ get_or-replicate n u 0 0 (omega arith)
 
 module _ {nodes joined : List ℕ} {s t : ℕ} {list counts : List ℕ} {i : ℕ} (g : Counting nodes joined s t list counts i) (h : i < length list) (j : Joined joined) (inside : Inside list) where
   pub count-inside : get_or list i 0 < 65535

@@ -2,17 +2,19 @@
 use native.Mathlib.Omega.{arith}
 use native.Mathlib.Decide.{dec_le}
 use mathlib.Core.Path.{◌≡◌, refl, sym, ap, ◌∙◌}
-use mathlib.Core.Bool.{Bool, true, false, not, ◌&&◌, ◌||◌, true≢false, false≢true}
+use mathlib.Core.Bool.{Bool, true, false, cond, not, ◌&&◌, ◌||◌, true≢false, false≢true}
 use mathlib.Core.List.{List, [], ◌∷◌, ◌++◌, flat_map}
 use Prim.Native.Nat.{ℕ, suc, ◌+◌, ◌%◌, ◌≤◌, ◌<◌}
 use lib.Dec.{eqb}
-use lib.ListN.{length, take, get_or}
-use lib.Seq.{slice}
+use lib.ListN.{length, drop, get_or, drop_of_length-le}
 use borrow.Author.Tests.{le-ltb, lt-ltb, ne_eqb, eqb-true}
+use Rattle.std.proofs.Common.{Option, Some, None}
+use Rattle.std.proofs.lemmas.Option.{none-some, same_Some}
+use Rattle.std.specs.List.{filter, list_all}
 use Rattle.rules.specs.Lists.{all, any, keep, has}
 use Rattle.laws.specs.Strict.{Strict}
 use Rattle.laws.specs.Keep.{keep-most, keep-yes, keep-no, keep-from, has-keep, keep-swap}
-use Rattle.laws.specs.Slices.{slice-next, slice-none}
+use Rattle.laws.specs.Slices.{drop-next}
 use Rattle.laws.specs.Cases.{first-holds, second-holds}
 use Rattle.laws.specs.Searching.{stands_in}
 use Rattle.laws.specs.Any.{any-more}
@@ -26,8 +28,7 @@ use Rattle.build_keys.specs.Walk.{rest_of}
 use Rattle.build_longlist.specs.Counting.{long_last}
 use Rattle.build_longlist.specs.Exceed.{long_from, goes_with, Sifted, Rooms}
 use Rattle.build_edges.proofs.Nearby.{either-side}
-use Rattle.build_keys.proofs.Going.{labels-next, labels-none, keyed-short, keyed-here, keyed-on}
-use Rattle.build_longlist.proofs.Sifting.{high-none}
+use Rattle.build_keys.proofs.Going.{labels-next, labels-none, labels-fall, keyed-short, keyed-here, keyed-on}
 
 -- ---- some of a flat list
 some-append : {A : Type 0} (a b : List A) → not (eqb (length (a ++ b)) 0) ≡ (not (eqb (length a) 0) || not (eqb (length b) 0))
@@ -124,64 +125,54 @@ goes-none nodes joined labels list t u w g h =
     ap (long_from (word_in joined) (labelled_in nodes) t labels) (all-kept (word_in joined u) (word_in joined w) list g)
     ∙ none-less (word_in joined) (labelled_in nodes) t labels (keep (word_in joined w) list) (word_in joined u) h
 
--- a loop over a list, or over the low halves of words, that asks q of those of which p holds: what is left decides the whole
-pub record Within (p q : ℕ → Bool) (whole : Bool) (left : List ℕ) : Type 0 where
-  pub rest : whole ≡ all q (keep p left)
+-- what a chain of std answers, in the words of the rules
+filter-keep : (p : ℕ → Bool) (l : List ℕ) → filter p l ≡ keep p l
+unfolding keep
+filter-keep p [] = refl
+filter-keep p (v ∷ l) = go (p v) (filter-keep p l)
+  where
+    go : (t : Bool) → filter p l ≡ keep p l → cond t (v ∷ filter p l) (filter p l) ≡ (cond t (v ∷ []) [] ++ keep p l)
+    go true ih = ap (λ m. v ∷ m) ih
+    go false ih = ih
 
-module _ {p q : ℕ → Bool} {whole : Bool} {v : ℕ} {left : List ℕ} (g : Within p q whole (v ∷ left)) where
-  pub within-skip : p v ≡ false → Within p q whole left
-  within-skip h = record { rest = g.rest ∙ ap (all q) (keep-no p v left h) }
+list-all : (q : ℕ → Bool) (l : List ℕ) → list_all q l ≡ all q l
+unfolding all
+list-all q [] = refl
+list-all q (v ∷ l) = ap (λ t. q v && t) (list-all q l)
 
-  asked : p v ≡ true → whole ≡ (q v && all q (keep p left))
-  unfolding all
-  asked h = g.rest ∙ ap (all q) (keep-yes p v left h)
-
-  pub within-next : p v ≡ true → q v ≡ true → Within p q whole left
-  within-next h e = record { rest = asked h ∙ rw e }
-
-  pub within-stop : p v ≡ true → q v ≡ false → false ≡ whole
-  within-stop h e = sym (asked h ∙ rw e)
-
-pub within-done : {p q : ℕ → Bool} {whole : Bool} → Within p q whole [] → true ≡ whole
-unfolding keep all
-within-done g = sym g.rest
+pub all-filtered : (p q : ℕ → Bool) (l : List ℕ) → list_all q (filter p l) ≡ all q (keep p l)
+all-filtered p q l = ap (list_all q) (filter-keep p l) ∙ list-all q (keep p l)
 
 -- ---- a key that goes on with u
 abbrev leads : List ℕ → List ℕ → Labels → ℕ → List ℕ → ℕ → Bool
 leads nodes joined left t list u = long_from (word_in joined) (labelled_in nodes) t (labels_in (rest_of left)) (keep (word_in joined u) list)
 
--- ---- the loop of `exceeds_from`: the first i of the n words are done, w led to no long list, and what is left decides the whole
-pub record Trying (nodes joined : List ℕ) (left : Labels) (t : ℕ) (list words : List ℕ) (n i w : ℕ) (whole : Bool) : Type 0 where
-  pub ahead : i ≤ n
-  pub inside : n ≤ length words
-  pub last : leads nodes joined left t list w ≡ false
-  pub todo : whole ≡ any (leads nodes joined left t list) (lows (slice i n words))
+-- ---- the loop of `exceeds_from`: the first i of the words are done, the node that is known led to no long list, and what is left decides the whole
+pub record Trying (nodes joined : List ℕ) (left : Labels) (t : ℕ) (list words : List ℕ) (i : ℕ) (known : Option ℕ) (whole : Bool) : Type 0 where
+  pub last : (w : ℕ) → known ≡ Some w → leads nodes joined left t list w ≡ false
+  pub todo : whole ≡ any (leads nodes joined left t list) (lows (drop i words))
 
 module _ {nodes joined : List ℕ} {left : Labels} {t : ℕ} {list words : List ℕ} where
-  pub try-start : (n : ℕ) → t < length list → (left.first ≡ 0 → ⊥) → n ≤ length words → Sifted joined list t (labelled_in nodes left.first) (take n words)
-      → Trying nodes joined left t list words n 0 65536 (long_from (word_in joined) (labelled_in nodes) t (labels_in left) list)
-  try-start n h k fits s = record {
-    ahead = omega arith;
-    inside = fits;
-    last =
-        ap (long_from (word_in joined) (labelled_in nodes) t (labels_in (rest_of left))) (high-none joined 65536 list (omega arith))
-        ∙ long-short (word_in joined) (labelled_in nodes) t (labels_in (rest_of left)) [] (omega arith);
+  pub try-start : {known : Option ℕ} → known ≡ None → t < length list → (left.first ≡ 0 → ⊥) → Sifted joined list t (labelled_in nodes left.first) words
+      → Trying nodes joined left t list words 0 known (long_from (word_in joined) (labelled_in nodes) t (labels_in left) list)
+  try-start n h k s = record {
+    last = λ w e. absurd (none-some w (sym n ∙ e));
     todo =
         ap (λ l. long_from (word_in joined) (labelled_in nodes) t l list) (labels-next left.first left.second left.third k)
         ∙ long-on (word_in joined) (labelled_in nodes) t left.first (labels_in (rest_of left)) list h
         ∙ sym (s.some (leads nodes joined left t list) (λ u q. long-short (word_in joined) (labelled_in nodes) t (labels_in (rest_of left)) (keep (word_in joined u) list) q));
   }
 
-  module _ {n i w : ℕ} {whole : Bool} (g : Trying nodes joined left t list words n i w whole) (u : ℕ) (h : i < n) (e : u ≡ get_or words i 0 % 65536) where
-    next : whole ≡ (leads nodes joined left t list u || any (leads nodes joined left t list) (lows (slice (i + 1) n words)))
+  module _ {i : ℕ} {known : Option ℕ} {whole : Bool} (g : Trying nodes joined left t list words i known whole) (u : ℕ) (h : i < length words) (e : u ≡ get_or words i 0 % 65536) where
+    next : whole ≡ (leads nodes joined left t list u || any (leads nodes joined left t list) (lows (drop (i + 1) words)))
     unfolding any
-    next = g.todo ∙ ap (λ l. any (leads nodes joined left t list) (lows l)) (slice-next i n words h g.inside) ∙ ap (λ v. leads nodes joined left t list v || any (leads nodes joined left t list) (lows (slice (i + 1) n words))) (sym e)
+    next = g.todo ∙ ap (λ l. any (leads nodes joined left t list) (lows l)) (drop-next words i h) ∙ ap (λ v. leads nodes joined left t list v || any (leads nodes joined left t list) (lows (drop (i + 1) words))) (sym e)
 
-    -- u goes with w
-    pub try-skip : {r : Bool} → r ≡ goes_with joined list u w → r ≡ true → Trying nodes joined left t list words n (i + 1) w whole
-    try-skip q y =
-        let none = goes-none nodes joined (labels_in (rest_of left)) list t u w (sym q ∙ y) g.last in
-        record { ahead = omega arith; inside = g.inside; last = g.last; todo = next ∙ ap (λ b. b || any (leads nodes joined left t list) (lows (slice (i + 1) n words))) none }
+    -- u goes with the one that is known
+    pub try-skip : (w : ℕ) × (known ≡ Some w) × (goes_with joined list u w ≡ true) → Trying nodes joined left t list words (i + 1) known whole
+    try-skip q =
+        let none = goes-none nodes joined (labels_in (rest_of left)) list t u q.0 q.2 (g.last q.0 q.1) in
+        record { last = g.last; todo = next ∙ ap (λ b. b || any (leads nodes joined left t list) (lows (drop (i + 1) words))) none }
 
     -- u is followed
     module _ {left' : Labels} {list' : List ℕ} {r : Bool} (el : left' ≡ rest_of left) (ek : list' ≡ keep (word_in joined u) list)
@@ -189,17 +180,20 @@ module _ {nodes joined : List ℕ} {left : Labels} {t : ℕ} {list words : List 
       followed : r ≡ leads nodes joined left t list u
       followed = q ∙ ap (λ l. long_from (word_in joined) (labelled_in nodes) t (labels_in l) list') el ∙ ap (long_from (word_in joined) (labelled_in nodes) t (labels_in (rest_of left))) ek
 
-      pub try-next : r ≡ false → Trying nodes joined left t list words n (i + 1) u whole
-      try-next y =
+      pub try-next : {known' : Option ℕ} → known' ≡ Some u → r ≡ false → Trying nodes joined left t list words (i + 1) known' whole
+      try-next n y =
           let none : leads nodes joined left t list u ≡ false = sym followed ∙ y in
-          record { ahead = omega arith; inside = g.inside; last = none; todo = next ∙ ap (λ b. b || any (leads nodes joined left t list) (lows (slice (i + 1) n words))) none }
+          record {
+            last = λ w f. rw (same_Some w u (sym f ∙ n)) none;
+            todo = next ∙ ap (λ b. b || any (leads nodes joined left t list) (lows (drop (i + 1) words))) none;
+          }
 
       pub try-stop : r ≡ true → true ≡ whole
-      try-stop y = sym (next ∙ ap (λ b. b || any (leads nodes joined left t list) (lows (slice (i + 1) n words))) (sym followed ∙ y))
+      try-stop y = sym (next ∙ ap (λ b. b || any (leads nodes joined left t list) (lows (drop (i + 1) words))) (sym followed ∙ y))
 
-  pub try-done : {n i w : ℕ} {whole : Bool} → Trying nodes joined left t list words n i w whole → n ≤ i → false ≡ whole
+  pub try-done : {i : ℕ} {known : Option ℕ} {whole : Bool} → Trying nodes joined left t list words i known whole → length words ≤ i → false ≡ whole
   unfolding any
-  try-done {n} {i} g h = sym (g.todo ∙ ap (λ l. any (leads nodes joined left t list) (lows l)) (slice-none i n words h))
+  try-done {i} g h = sym (g.todo ∙ ap (λ l. any (leads nodes joined left t list) (lows l)) (drop_of_length-le words {i = i} h))
 
 pub try-short : (nodes joined : List ℕ) (left : Labels) (t : ℕ) (list : List ℕ) → length list ≤ t → false ≡ long_from (word_in joined) (labelled_in nodes) t (labels_in left) list
 try-short nodes joined left t list h = sym (long-short (word_in joined) (labelled_in nodes) t (labels_in left) list h)
@@ -218,19 +212,22 @@ try-counted nodes joined left t list also h k one q =
     ∙ long-on (word_in joined) (labelled_in nodes) t left.first [] list h)
 
 -- one level deeper
-pub rooms-next : {nodes joined : List ℕ} {left left' : Labels} {list list' one two two' three three' none' a b b' c c' near' : List ℕ} (p : ℕ → Bool) → Rooms nodes joined left list one two three a b c
-    → left' ≡ rest_of left → list' ≡ keep p list → length two' ≡ length two → length three' ≡ length three → length b' ≡ length b → length c' ≡ length c
-    → Rooms nodes joined left' list' two' three' none' b' c' near'
-rooms-next {list = list} {list' = list'} p f r l e₂ e₃ eb ec =
+pub rooms-next : {nodes joined : List ℕ} {left left' : Labels} {list list' rooms rooms' : List ℕ} (p : ℕ → Bool) → Rooms nodes joined left list rooms
+    → (left.first ≡ 0 → ⊥) → left' ≡ rest_of left → list' ≡ keep p list → length rooms ≤ length rooms' + 131072 → Rooms nodes joined left' list' rooms'
+rooms-next {left = left} {left' = left'} {list = list} {list' = list'} p f h r l e =
     let less : length list' ≤ length list = rw l (keep-most p list) in
     let short = f.short in
+    let long = f.long in
+    let fall = labels-fall left left' h r in
     record {
       few = f.few;
       both = f.both;
       short = omega arith;
       ascends = rw l (keep-from p 0 list f.ascends);
-      inside = λ v h. f.inside v (second-holds (p v) (has v list) (sym (has-keep p v list) ∙ rw l at h));
-      first = λ z. rw (e₂, eb) (f.second (λ q. z (ap (λ x. x.first) r ∙ q)));
-      second = λ z. rw (e₃, ec) (f.third (λ q. z (ap (λ x. x.second) r ∙ q)));
-      third = λ z. absurd (z (ap (λ x. x.third) r));
+      inside = λ v q. f.inside v (second-holds (p v) (has v list) (sym (has-keep p v list) ∙ rw l at q));
+      long = omega arith;
     }
+
+-- with a label left there are the rooms of one level
+pub rooms-here : {nodes joined : List ℕ} {left : Labels} {list rooms : List ℕ} → Rooms nodes joined left list rooms → (left.first ≡ 0 → ⊥) → 131072 ≤ length rooms
+rooms-here {left = left} f h = let long = f.long in let fall = labels-fall left (rest_of left) h refl in omega arith

@@ -19,56 +19,36 @@ use Rattle.build_keys.specs.Pass.{Right, AtHand}
 use Rattle.build_longlist.specs.Exceed.{long_from, exceeds_by, exceeds_at, exceeds_in, Rooms, Ample}
 use Rattle.build_edges.proofs.Nearby.{labelled-strict}
 use Rattle.build_neighbours.proofs.Pairing.{labelled-below}
-use Rattle.build_keys.proofs.Passing.{labelled-few}
+use Rattle.build_keys.proofs.Passing.{labelled-few, labels-few}
 use Rattle.build_keys.proofs.Groups.{satisfies-keyed}
 use Rattle.build_keys.proofs.Graphs.{own-both}
 use Rattle.build_keys.proofs.Index.{keyed-any, each-constraint, right-sound}
 use Rattle.build_longlist.proofs.Exceeding.{long-keyed}
 
 -- ---- the rooms
-pub rooms-start : {nodes joined constraints zero one two three a b c list : List ℕ} {left : Labels} (l : ℕ) → Ample nodes joined constraints zero one two three a b c → list ≡ labelled_in nodes l
-    → Rooms nodes joined left list one two three a b c
-rooms-start {nodes} {list = list} l r e =
+pub rooms-start : {nodes joined constraints rooms deeper list : List ℕ} {left : Labels} (l : ℕ) → Ample nodes joined constraints rooms → list ≡ labelled_in nodes l → length rooms ≤ length deeper + 65536
+    → Rooms nodes joined left list deeper
+rooms-start {nodes} {list = list} {left} l r e q =
     let few = r.few in
+    let long = r.long in
     let less : length list ≤ nodes_in nodes = rw e (labelled-few nodes l) in
+    let labels = labels-few left.first left.second left.third in
     record {
       few = r.few;
       both = r.both;
       short = omega arith;
       ascends = rw e (labelled-strict nodes l);
       inside = λ v h. let k = labelled-below nodes l v (rw e at h) in omega arith;
-      first = λ z. r.first;
-      second = λ z. r.second;
-      third = λ z. r.third;
+      long = omega arith;
     }
 
-pub ample-same : {nodes joined constraints zero one two three a b c zero' one' two' three' a' b' c' : List ℕ} → Ample nodes joined constraints zero one two three a b c
-    → length zero' ≡ length zero → (length one' ≡ length one) × (length a' ≡ length a) → (length two' ≡ length two) × (length b' ≡ length b)
-    → (length three' ≡ length three) × (length c' ≡ length c) → Ample nodes joined constraints zero' one' two' three' a' b' c'
-ample-same r e one two three = record {
-  few = r.few;
-  both = r.both;
-  limited = r.limited;
-  zero = rw e r.zero;
-  first = rw (one.0, one.1) r.first;
-  second = rw (two.0, two.1) r.second;
-  third = rw (three.0, three.1) r.third;
-}
+pub ample-same : {nodes joined constraints rooms rooms' : List ℕ} → Ample nodes joined constraints rooms → length rooms' ≡ length rooms → Ample nodes joined constraints rooms'
+ample-same r e = record { few = r.few; both = r.both; limited = r.limited; long = rw e r.long }
 
-pub ample-own : {nodes constraints zero one two three a b c : List ℕ} (s joined : List ℕ) → AtHand s joined → nodes ≡ node_part s → constraints ≡ constraint_part s → 65536 ≤ length zero
-    → (65536 ≤ length one) × (65536 ≤ length a) → (65536 ≤ length two) × (65536 ≤ length b) → (65536 ≤ length three) × (65536 ≤ length c)
-    → Ample nodes joined constraints zero one two three a b c
-ample-own s joined r en ec long first second third =
+pub ample-own : {nodes constraints rooms : List ℕ} (s joined : List ℕ) → AtHand s joined → nodes ≡ node_part s → constraints ≡ constraint_part s → 458752 ≤ length rooms → Ample nodes joined constraints rooms
+ample-own s joined r en ec long =
     let sound = right-sound r.right in
-    record {
-      few = rw en sound.nodes;
-      both = own-both s sound r.words;
-      limited = rw ec sound.constraints;
-      zero = long;
-      first = first;
-      second = second;
-      third = third;
-    }
+    record { few = rw en sound.nodes; both = own-both s sound r.words; limited = rw ec sound.constraints; long = long }
 
 -- ---- one constraint
 pub at-told : {d : Constraint} {list : List ℕ} {r : Bool} (nodes joined constraints : List ℕ) (c : ℕ) → d ≡ constraint_at constraints c → list ≡ labelled_in nodes d.label

@@ -17,10 +17,6 @@ times u l = length (keep (λ z. eqb z u) l)
 abbrev pub Inside : List ℕ → Type 0
 Inside list = (v : ℕ) → has v list ≡ true → v < 65535
 
--- nothing is counted yet
-pub record Cleared (counts : List ℕ) : Type 0 where
-  pub none : (u : ℕ) → u < 65536 → get_or counts u 0 ≡ 0
-
 -- no node labelled s is counted more than t times
 pub record Low (nodes : List ℕ) (s t : ℕ) (counts : List ℕ) : Type 0 where
   pub low : (u : ℕ) → is_labelled nodes s u ≡ true → get_or counts u 0 ≤ t

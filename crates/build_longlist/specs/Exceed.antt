@@ -1,5 +1,5 @@
 -- Whether some list of a constraint is longer than its N, without going through its keys.
-use Rattle.std.specs.Prelude.{ℕ, ◌≤◌, ◌≡◌, Bool, false, ◌&&◌, List, [], ◌∷◌, ltb, length}
+use Rattle.std.specs.Prelude.{ℕ, ◌*◌, ◌≤◌, ◌≡◌, Bool, false, ◌&&◌, List, [], ◌∷◌, ltb, length}
 use Rattle.rules.specs.Lists.{any, all, keep, any_from}
 use Rattle.laws.specs.Strict.{Strict}
 use Rattle.rules.specs.Store.{most_constraints, most_nodes, constraints_in, constraint_at, nodes_in}
@@ -7,7 +7,7 @@ use Rattle.rules.specs.declared.Constraint.{Constraint}
 use Rattle.build_edges.specs.Packed.{word_in, labelled_in}
 use Rattle.laws.specs.Lows.{lows}
 use Rattle.build_edges.specs.Near.{Joined}
-use Rattle.build_neighbours.specs.Left.{labels_left}
+use Rattle.build_neighbours.specs.Left.{labels_left, labels_in}
 use Rattle.build_neighbours.specs.declared.Labels.{Labels}
 use Rattle.build_longlist.specs.Counting.{Inside}
 
@@ -37,23 +37,18 @@ exceeds_in nodes joined constraints = any_from (exceeds_at nodes joined constrai
 pub record Sifted (joined list : List ℕ) (t : ℕ) (ids words : List ℕ) : Type 0 where
   pub some : (p : ℕ → Bool) → ((u : ℕ) → length (keep (word_in joined u) list) ≤ t → p u ≡ false) → any p (lows words) ≡ any p ids
 
--- the rooms for lists (one, two, three) and for the nodes that are tried (a, b, c) are long enough; two of them as in the walk of build_keys, which has no third
-pub record Rooms (nodes joined : List ℕ) (left : Labels) (list one two three a b c : List ℕ) : Type 0 where
+-- there is a room for a list and a room for the nodes that are tried for each label left
+pub record Rooms (nodes joined : List ℕ) (left : Labels) (list rooms : List ℕ) : Type 0 where
   pub few : nodes_in nodes ≤ most_nodes
   pub both : Joined joined
   pub short : length list ≤ 65536
   pub ascends : Strict list
   pub inside : Inside list
-  pub first : (left.first ≡ 0 → ⊥) → (65536 ≤ length one) × (65536 ≤ length a)
-  pub second : (left.second ≡ 0 → ⊥) → (65536 ≤ length two) × (65536 ≤ length b)
-  pub third : (left.third ≡ 0 → ⊥) → (65536 ≤ length three) × (65536 ≤ length c)
+  pub long : 131072 * length (labels_in left) ≤ length rooms
 
 -- the same for all constraints, with a room for the nodes labelled l
-pub record Ample (nodes joined constraints list one two three a b c : List ℕ) : Type 0 where
+pub record Ample (nodes joined constraints rooms : List ℕ) : Type 0 where
   pub few : nodes_in nodes ≤ most_nodes
   pub both : Joined joined
   pub limited : constraints_in constraints ≤ most_constraints
-  pub zero : 65536 ≤ length list
-  pub first : (65536 ≤ length one) × (65536 ≤ length a)
-  pub second : (65536 ≤ length two) × (65536 ≤ length b)
-  pub third : (65536 ≤ length three) × (65536 ≤ length c)
+  pub long : 458752 ≤ length rooms

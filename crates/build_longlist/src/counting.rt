@@ -2,29 +2,15 @@
 ghost use Rattle.std.specs.Prelude.{◌≡◌, true, false, ◌≤◌, length};
 ghost use Rattle.rules.specs.Store.{most_nodes, nodes_in};
 ghost use Rattle.build_edges.specs.Near.{Joined};
-ghost use Rattle.build_longlist.specs.Counting.{long_last, Inside, Cleared, Low, Spare, Added, Above};
-
-// Counts nothing yet.
-fn clear(counts: &mut [u32])
-    requires { 65536 ≤ length counts.old }
-    ensures { Cleared counts.new }
-{
-    let mut i = 0;
-    while i < 65536 {
-        counts[i] = 0;
-        i += 1;
-    }
-}
+ghost use Rattle.build_longlist.specs.Counting.{long_last, Inside, Low, Spare, Added, Above};
 
 // Counts the low halves of words; whether a node labelled s is then counted more than N times. Few are, so the label is looked at last.
 fn count_near(nodes: &[u8], words: &[u32], s: u16, most: u32, counts: &mut [u32]) -> bool
     requires { (65536 ≤ length counts.old) × (Spare words.now counts.old × Low nodes.now s most counts.old) }
     ensures { (result ≡ true → Above nodes.now s most words.now counts.old) × (result ≡ false → Added words.now counts.old counts.new × Low nodes.now s most counts.new) }
 {
-    let mut i = 0;
-    while i < words.len() {
-        let u = words[i] % 65536;
-        i += 1;
+    for &w in words {
+        let u = w % 65536;
         let c = counts[u as usize] + 1;
         counts[u as usize] = c;
         if most < c {
@@ -48,11 +34,9 @@ pub fn counts_exceed(
     requires { ((65536 ≤ length counts.old) × (nodes_in nodes.now ≤ most_nodes)) × (Joined joined.now × ((length list.now ≤ 65536) × Inside list.now)) }
     ensures { result ≡ long_last nodes.now joined.now s most list.now }
 {
-    clear(counts);
-    let mut i = 0;
-    while i < list.len() {
-        let near = build_edges::words_of(joined, list[i]);
-        i += 1;
+    counts.fill(0);
+    for &v in list {
+        let near = build_edges::words_of(joined, v);
         if count_near(nodes, near, s, most, counts) {
             return true;
         }

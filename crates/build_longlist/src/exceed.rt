@@ -1,5 +1,5 @@
 // Refusal 4: whether some list is longer than its N, decided without going through the keys.
-ghost use Rattle.std.specs.Prelude.{◌≡◌, ◌≤◌, ◌<◌, length, take};
+ghost use Rattle.std.specs.Prelude.{◌≡◌, true, ℕ, ◌≤◌, ◌<◌, length, take};
 ghost use Rattle.rules.specs.Lists.{all, keep};
 ghost use Rattle.laws.specs.Strict.{Strict};
 ghost use Rattle.rules.specs.Store.{most_nodes, nodes_in, constraints_in};
@@ -19,34 +19,19 @@ use build_neighbours::Labels;
 fn goes_listed(joined: &[u32], list: &[u32], u: u32, w: u32) -> bool
     ensures { result ≡ all (word_in joined.now w) (keep (word_in joined.now u) list.now) }
 {
-    let mut i = 0;
-    while i < list.len() {
-        let v = list[i];
-        i += 1;
-        if build_edges::word_in(joined, u, v) {
-            if !build_edges::word_in(joined, w, v) {
-                return false;
-            }
-        }
-    }
-    true
+    list.iter()
+        .filter(|&&v| build_edges::word_in(joined, u, v))
+        .all(|&v| build_edges::word_in(joined, w, v))
 }
 
 // Whether all low halves of words that are in a list are joined with w.
 fn goes_near(joined: &[u32], near: &[u32], list: &[u32], w: u32) -> bool
     ensures { result ≡ all (word_in joined.now w) (keep (λ v. stands_in v list.now) (lows near.now)) }
 {
-    let mut i = 0;
-    while i < near.len() {
-        let v = near[i] % 65536;
-        i += 1;
-        if order::has_word(list, v) {
-            if !build_edges::word_in(joined, w, v) {
-                return false;
-            }
-        }
-    }
-    true
+    near.iter()
+        .map(|&x| x % 65536)
+        .filter(|&v| order::has_word(list, v))
+        .all(|v| build_edges::word_in(joined, w, v))
 }
 
 // Whether all nodes of a list that are joined with u are joined with w.
@@ -69,10 +54,8 @@ fn mark_of(list: &[u32]) -> u32
     ensures { result < 65536 }
 {
     let mut mark = 0;
-    let mut i = 0;
-    while i < list.len() {
-        mark = (mark * 40503 + list[i] % 65536) % 65536;
-        i += 1;
+    for &v in list {
+        mark = (mark * 40503 + v % 65536) % 65536;
     }
     mark
 }
@@ -82,12 +65,10 @@ fn sift(joined: &[u32], list: &[u32], most: u32, ids: &mut [u32], room: &mut [u3
     requires { (length list.now ≤ length room.old) × (Strict joined.now × Strict list.now) }
     ensures { (result ≤ length ids.old) × Sifted joined.now list.now most ids.old (take result ids.new) }
 {
-    let n = ids.len();
     let mut k = 0;
-    let mut i = 0;
-    while i < n {
+    // Stays by number: the ids are written over as they are read.
+    for i in 0..ids.len() {
         let u = ids[i];
-        i += 1;
         let c = build_edges::shared(joined, list, u, room);
         if (most as usize) < c {
             ids[k] = mark_of(&room[..c]) * 65536 + u % 65536;
@@ -124,7 +105,19 @@ fn sifted(
     group(joined, list, most, &mut out[..n], scratch)
 }
 
+// Whether a node that led to none is known, and u goes with it.
+fn goes_too(joined: &[u32], list: &[u32], u: u32, known: Option<u32>) -> bool
+    requires { Strict joined.now × Strict list.now }
+    ensures { result ≡ true → (w : ℕ) × (known ≡ Some w) × (goes_with joined.now list.now u w ≡ true) }
+{
+    match known {
+        Some(w) => goes_with(joined, list, u, w),
+        None => false,
+    }
+}
+
 // Whether some key that goes on with nodes of the labels left has a list longer than N; `list` is the list of the nodes before them.
+// For each label left, `rooms` has one room for a list and one for the nodes that are tried: each depth takes the first two, and lends the rest on.
 // A node whose part of the list is within that of a node that led to none leads to none. With one label left, a long list is counted instead;
 // for a short one, clearing the counts would cost more than it saves.
 fn exceeds_from(
@@ -133,14 +126,9 @@ fn exceeds_from(
     left: Labels,
     most: u32,
     list: &[u32],
-    one: &mut [u32],
-    two: &mut [u32],
-    three: &mut [u32],
-    first: &mut [u32],
-    second: &mut [u32],
-    third: &mut [u32],
+    rooms: &mut [u32],
 ) -> bool
-    requires { Rooms nodes.now joined.now left list.now one.old two.old three.old first.old second.old third.old }
+    requires { Rooms nodes.now joined.now left list.now rooms.old }
     ensures { result ≡ long_from (word_in joined.now) (labelled_in nodes.now) most (labels_in left) list.now }
 {
     if list.len() <= most as usize {
@@ -149,18 +137,16 @@ fn exceeds_from(
     if left.first == 0 {
         return true;
     }
+    let (one, rest) = rooms.split_at_mut(65536);
     if (left.second == 0) & (16 <= list.len()) {
         return counts_exceed(nodes, joined, left.first, most, list, one);
     }
-    let n = sifted(nodes, joined, list, left.first, most, first, one);
-    let mut none = [0u32; 1];
-    let mut empty = [0u32; 1];
-    let mut w = 65536;
-    let mut i = 0;
-    while i < n {
-        let u = first[i] % 65536;
-        i += 1;
-        if !goes_with(joined, list, u, w) {
+    let (tried, deeper) = rest.split_at_mut(65536);
+    let n = sifted(nodes, joined, list, left.first, most, tried, one);
+    let mut none = None;
+    for &x in &tried[..n] {
+        let u = x % 65536;
+        if !goes_too(joined, list, u, none) {
             let k = build_edges::shared(joined, list, u, one);
             if exceeds_from(
                 nodes,
@@ -168,36 +154,19 @@ fn exceeds_from(
                 build_keys::rest_of(left),
                 most,
                 &one[..k],
-                two,
-                three,
-                &mut none,
-                second,
-                third,
-                &mut empty,
+                deeper,
             ) {
                 return true;
             }
-            w = u;
+            none = Some(u);
         }
     }
     false
 }
 
 // Whether some list of constraint c is longer than its N.
-fn exceeds_at(
-    nodes: &[u8],
-    joined: &[u32],
-    constraints: &[u8],
-    c: usize,
-    zero: &mut [u32],
-    one: &mut [u32],
-    two: &mut [u32],
-    three: &mut [u32],
-    first: &mut [u32],
-    second: &mut [u32],
-    third: &mut [u32],
-) -> bool
-    requires { (c < constraints_in constraints.now) × Ample nodes.now joined.now constraints.now zero.old one.old two.old three.old first.old second.old third.old }
+fn exceeds_at(nodes: &[u8], joined: &[u32], constraints: &[u8], c: usize, rooms: &mut [u32]) -> bool
+    requires { (c < constraints_in constraints.now) × Ample nodes.now joined.now constraints.now rooms.old }
     ensures { result ≡ exceeds_at nodes.now joined.now constraints.now c }
 {
     let d = store::constraint_at(constraints, c);
@@ -206,57 +175,20 @@ fn exceeds_at(
         second: d.second,
         third: d.third,
     };
-    let k = build_edges::labelled(nodes, d.label, zero);
-    exceeds_from(
-        nodes,
-        joined,
-        left,
-        d.most,
-        &zero[..k],
-        one,
-        two,
-        three,
-        first,
-        second,
-        third,
-    )
+    let (list, deeper) = rooms.split_at_mut(65536);
+    let k = build_edges::labelled(nodes, d.label, list);
+    exceeds_from(nodes, joined, left, d.most, &list[..k], deeper)
 }
 
 // Whether some list of one of the constraints is longer than its N.
-fn exceeds_in(
-    nodes: &[u8],
-    joined: &[u32],
-    constraints: &[u8],
-    zero: &mut [u32],
-    one: &mut [u32],
-    two: &mut [u32],
-    three: &mut [u32],
-    first: &mut [u32],
-    second: &mut [u32],
-    third: &mut [u32],
-) -> bool
-    requires { Ample nodes.now joined.now constraints.now zero.old one.old two.old three.old first.old second.old third.old }
+fn exceeds_in(nodes: &[u8], joined: &[u32], constraints: &[u8], rooms: &mut [u32]) -> bool
+    requires { Ample nodes.now joined.now constraints.now rooms.old }
     ensures { result ≡ exceeds_in nodes.now joined.now constraints.now }
 {
-    let k = constraints.len() / 12;
-    let mut c = 0;
-    while c < k {
-        if exceeds_at(
-            nodes,
-            joined,
-            constraints,
-            c,
-            zero,
-            one,
-            two,
-            three,
-            first,
-            second,
-            third,
-        ) {
+    for c in 0..constraints.len() / 12 {
+        if exceeds_at(nodes, joined, constraints, c, rooms) {
             return true;
         }
-        c += 1;
     }
     false
 }
@@ -268,23 +200,7 @@ pub fn some_exceeds(s: &[u8], joined: &[u32]) -> bool
 {
     let nodes = store::node_part(s);
     let constraints = store::constraint_part(s);
-    let mut zero = [0u32; 65536];
-    let mut one = [0u32; 65536];
-    let mut two = [0u32; 65536];
-    let mut three = [0u32; 65536];
-    let mut first = [0u32; 65536];
-    let mut second = [0u32; 65536];
-    let mut third = [0u32; 65536];
-    exceeds_in(
-        nodes,
-        joined,
-        constraints,
-        &mut zero,
-        &mut one,
-        &mut two,
-        &mut three,
-        &mut first,
-        &mut second,
-        &mut third,
-    )
+    // Seven rooms of 65,536 words: one for the nodes of a constraint's label, and two for each label of S.
+    let mut rooms = [0u32; 458752];
+    exceeds_in(nodes, joined, constraints, &mut rooms)
 }

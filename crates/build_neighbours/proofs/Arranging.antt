@@ -1,23 +1,22 @@
 -- Laws of words that are put in the order of their places, and the states of the loops that do it. Assumes nothing.
 use native.Mathlib.Omega.{arith}
-use native.Mathlib.Numerals.{add-one}
 use native.Mathlib.Decide.{dec_le, ℕ_discrete}
 use mathlib.Core.Path.{◌≡◌, refl, sym, ap, ap₂, ◌∙◌}
 use mathlib.Core.Bool.{Bool, true, false, cond, ◌||◌, false≢true}
 use mathlib.Core.List.{List, [], ◌∷◌, ◌++◌, map, append-nil, append_assoc, map-map, map-id}
 use Prim.Native.Nat.{ℕ, zero, suc, ◌+◌, ◌-◌, ◌*◌, ◌/◌, ◌%◌, ◌≤◌, ◌<◌}
 use lib.Dec.{eqb, leb}
-use lib.ListN.{length, take, drop, get_or, set, length-set, length-append, length-map, length-drop, take-append-drop, drop_of_length-le}
-use lib.Seq.{take-suc-set, drop-set-lt, drop-drop, drop_at, take_at, append_snoc, get_or-take, get_or-drop, take_all, length-take-le}
+use lib.ListN.{length, take, drop, get_or, length-append, length-map, length-drop, take-append-drop, drop_of_length-le}
+use lib.Seq.{drop-drop, drop_at, take_at, get_or-take, get_or-drop, take_all, length-take-le}
 use borrow.Rule.Slice.PartMut.{put_mid}
 use borrow.Author.Tests.{le-leb, lt-leb, eq-eqb, ne_eqb, eqb-true}
+use Rattle.std.specs.List.{HoldsAt, AllWithin}
 use Rattle.rules.specs.Words.{u16_at}
 use Rattle.rules.specs.Lists.{has, insert, sort_of, set_of}
 use Rattle.laws.specs.Strict.{From, Strict, below, drop-from, take-from}
 use Rattle.rules.specs.Store.{nodes_in, label_at}
 use Rattle.laws.specs.Has.{first-has, later-has, has-get}
 use Rattle.laws.specs.Sets.{is-set, length-sort}
-use Rattle.laws.specs.Slices.{drop-next}
 use Rattle.laws.specs.Searching.{lower, lower-within, before-lower, after-lower}
 use Rattle.laws.specs.Cases.{or-swap}
 use Rattle.laws.specs.Distinct.{Distinct, sort-strict}
@@ -51,13 +50,6 @@ pub record Run (ws : List ℕ) (i j : ℕ) : Type 0 where
   pub within : j ≤ length ws
   pub mine : (k : ℕ) → k < j → get_or ws k 0 < (get_or ws i 0 / 65536 + 1) * 65536
 
-pub run-start : (ws : List ℕ) (i : ℕ) → Strict ws → i < length ws → Run ws i (i + 1)
-run-start ws i s h = record {
-  some = omega arith;
-  within = omega arith;
-  mine = λ k q. let o = ascending ws s k i (omega arith) h in omega arith;
-}
-
 is-lower : (x : ℕ) (ws : List ℕ) (r : ℕ) → Strict ws → r ≤ length ws → ((k : ℕ) → k < r → get_or ws k 0 < x) → (r < length ws → x ≤ get_or ws r 0) → r ≡ lower x ws
 is-lower x ws r s w b a = go (dec_le r (lower x ws)) (dec_le (lower x ws) r)
   where
@@ -73,61 +65,68 @@ is-lower x ws r s w b a = go (dec_le r (lower x ws)) (dec_le (lower x ws) r)
         let d = after-lower x ws s (lower x ws) (omega arith) (omega arith) in
         absurd (omega arith)
 
-module _ {ws : List ℕ} {i j : ℕ} (g : Run ws i j) where
-  pub run-more : j < length ws → get_or ws j 0 / 65536 ≡ get_or ws i 0 / 65536 → Run ws i (j + 1)
-  run-more h e = record { some = omega (arith, g.some); within = omega arith; mine = λ k q. go k q (dec_le j k) }
+module _ (ws : List ℕ) (i : ℕ) (s : Strict ws) (h : i < length ws) where
+  abbrev Ended : ℕ → Type 0
+  Ended j = ((i < j) × (j ≤ length ws)) × (j ≡ lower ((get_or ws i 0 / 65536 + 1) * 65536) ws)
+
+  -- word i and those after it up to word i + n have one high half
+  run-to : (n : ℕ) → 0 < n → i + n ≤ length ws → ((k : ℕ) → k < n → get_or ws (i + k) 0 / 65536 ≡ get_or ws i 0 / 65536) → Run ws i (i + n)
+  run-to n z w g = record { some = omega arith; within = w; mine = λ k q. go k q (dec_le k i) }
     where
-      go : (k : ℕ) → k < j + 1 → Dec (j ≤ k) → get_or ws k 0 < (get_or ws i 0 / 65536 + 1) * 65536
-      go k q (yes p) =
-          let z : k ≡ j = omega arith in
-          rw z (omega arith)
-      go k q (no p) = g.mine k (omega arith)
+      go : (k : ℕ) → k < i + n → Dec (k ≤ i) → get_or ws k 0 < (get_or ws i 0 / 65536 + 1) * 65536
+      go k q (yes p) = let o = ascending ws s k i p h in omega arith
+      go k q (no p) =
+          let e : i + (k - i) ≡ k = omega arith in
+          let one : get_or ws k 0 / 65536 ≡ get_or ws i 0 / 65536 = ap (λ m. get_or ws m 0 / 65536) (sym e) ∙ g (k - i) (omega arith) in
+          omega arith
 
-  abbrev Ended : Type 0
-  Ended = ((i < j) × (j ≤ length ws)) × (j ≡ lower ((get_or ws i 0 / 65536 + 1) * 65536) ws)
+  ended-by : {j : ℕ} → Run ws i j → (j < length ws → (get_or ws i 0 / 65536 + 1) * 65536 ≤ get_or ws j 0) → Ended j
+  ended-by {j} g a = ((g.some, g.within), is-lower ((get_or ws i 0 / 65536 + 1) * 65536) ws j s g.within g.mine a)
 
-  ended-by : Strict ws → (j < length ws → (get_or ws i 0 / 65536 + 1) * 65536 ≤ get_or ws j 0) → Ended
-  ended-by s a = ((g.some, g.within), is-lower ((get_or ws i 0 / 65536 + 1) * 65536) ws j s g.within g.mine a)
-
-  pub run-other : Strict ws → j < length ws → (get_or ws j 0 / 65536 ≡ get_or ws i 0 / 65536 → ⊥) → Ended
-  run-other s h f = ended-by s (λ _.
-      let o = ascending ws s i j (omega (arith, g.some)) h in
-      let n = apart (dec_le (get_or ws j 0 / 65536) (get_or ws i 0 / 65536)) in
-      omega arith)
+  -- the first of them with another high half is the one at n
+  run-other : (n : ℕ) → i + n < length ws → (get_or ws (i + n) 0 / 65536 ≡ get_or ws i 0 / 65536 → ⊥) → ((k : ℕ) → k < n → get_or ws (i + k) 0 / 65536 ≡ get_or ws i 0 / 65536) → Ended (i + n)
+  run-other n w f g = go (dec_le n 0)
     where
-      apart : Dec (get_or ws j 0 / 65536 ≤ get_or ws i 0 / 65536) → get_or ws i 0 / 65536 < get_or ws j 0 / 65536
-      apart (yes q) = let o = ascending ws s i j (omega (arith, g.some)) h in absurd (f (omega arith))
-      apart (no q) = omega arith
+      go : Dec (n ≤ 0) → Ended (i + n)
+      go (yes p) =
+          let e : i + n ≡ i = omega arith in
+          absurd (f (ap (λ m. get_or ws m 0 / 65536) e))
+      go (no p) = ended-by (run-to n (omega arith) (omega arith) g) (λ _.
+          let o = ascending ws s i (i + n) (omega arith) w in
+          let apart : get_or ws i 0 / 65536 < get_or ws (i + n) 0 / 65536 = above (dec_le (get_or ws (i + n) 0 / 65536) (get_or ws i 0 / 65536)) in
+          omega arith)
+        where
+          above : Dec (get_or ws (i + n) 0 / 65536 ≤ get_or ws i 0 / 65536) → get_or ws i 0 / 65536 < get_or ws (i + n) 0 / 65536
+          above (yes q) = let o = ascending ws s i (i + n) (omega arith) w in absurd (f (omega arith))
+          above (no q) = omega arith
 
-  pub run-last : Strict ws → length ws ≤ j → Ended
-  run-last s h = ended-by s (λ k. absurd (omega arith))
+  -- there is no other
+  run-last : ((k : ℕ) → k < length ws - i → get_or ws (i + k) 0 / 65536 ≡ get_or ws i 0 / 65536) → Ended (length ws)
+  run-last g =
+      let e : i + (length ws - i) ≡ length ws = omega arith in
+      rw e at (ended-by (run-to (length ws - i) (omega arith) (omega arith) g) (λ q. absurd (omega arith)))
 
--- ---- a loop that writes what f makes of each word of src over the front of out
-pub record Mapped (f : ℕ → ℕ) (src out₀ : List ℕ) (i : ℕ) (out : List ℕ) : Type 0 where
-  pub ahead : i ≤ length src
-  pub same : length out ≡ length out₀
-  pub behind : drop i out ≡ drop i out₀
-  pub todo : take i out ++ map f (drop i src) ≡ map f src
+  -- the words from i on, as a search through them tells it
+  abbrev same : ℕ → Type 0
+  same w = w / 65536 ≡ get_or ws i 0 / 65536
 
-pub begun : (f : ℕ → ℕ) (src out : List ℕ) → Mapped f src out 0 out
-begun f src out = record { ahead = omega arith; same = refl; behind = refl; todo = refl }
+  abbrev ahead : List ℕ
+  ahead = take (length ws - i) (drop i ws)
 
-module _ {f : ℕ → ℕ} {src out₀ : List ℕ} {i : ℕ} {out : List ℕ} (g : Mapped f src out₀ i out) where
-  pub mapped : (x : ℕ) → i < length src → length src ≤ length out₀ → x ≡ f (get_or src i 0) → Mapped f src out₀ (i + 1) (set out i x)
-  mapped x h fits e =
-      let q : take (i + 1) (set out i x) ≡ take i out ++ (x ∷ []) = rw add-one (take-suc-set out i x (omega (arith, g.same))) in
-      record {
-        ahead = omega arith;
-        same = length-set out i x ∙ g.same;
-        behind = drop-set-lt (i + 1) out i x (omega arith) ∙ sym (drop-drop 1 i out) ∙ ap (drop 1) g.behind ∙ drop-drop 1 i out₀;
-        todo = rw (q, append_snoc, e) (rw (drop-next src i h) at g.todo);
-      }
+  ahead-word : (k : ℕ) → k < length ws - i → get_or ahead k 0 ≡ get_or ws (i + k) 0
+  ahead-word k q = get_or-take (length ws - i) (drop i ws) k 0 q ∙ get_or-drop i ws k 0
 
-  pub all-mapped : length src ≤ i → out ≡ map f src ++ drop (length src) out₀
-  all-mapped h =
-      let e : i ≡ length src = omega (arith, g.ahead) in
-      let t : take i out ≡ map f src = sym (append-nil (take i out)) ∙ rw (drop_of_length-le src {i = i} h) at g.todo in
-      sym (take-append-drop i out) ∙ rw (t, g.behind, e)
+  ahead-length : length ahead ≡ length ws - i
+  ahead-length = length-take-le (length ws - i) (drop i ws) (omega (arith, length-drop i ws))
+
+  pub other-told : (n : ℕ) → (n < length ahead) × HoldsAt (λ w. same w → ⊥) ahead n × AllWithin same ahead 0 n → Ended (i + n)
+  other-told n t =
+      let m = ahead-length in
+      let a : (k : ℕ) → k < n + 1 → get_or ws (i + k) 0 ≡ get_or ahead k 0 = λ k q. sym (ahead-word k (omega (arith, t.0))) in
+      run-other n (omega (arith, t.0)) (λ e. t.1 0 (ap (λ x. x / 65536) (sym (a n (omega arith))) ∙ e)) (λ k q. ap (λ x. x / 65536) (a k (omega arith)) ∙ t.2 k 0 (omega arith) q)
+
+  pub none-told : AllWithin same ahead 0 (length ahead) → Ended (length ws)
+  none-told t = let m = ahead-length in run-last (λ k q. ap (λ x. x / 65536) (sym (ahead-word k q)) ∙ t k 0 (omega arith) (omega arith))
 
 -- ---- sorting by f
 insert-front : (f : ℕ → ℕ) (x y : ℕ) (ys : List ℕ) → f x ≤ f y → insert_by f x (y ∷ ys) ≡ x ∷ y ∷ ys

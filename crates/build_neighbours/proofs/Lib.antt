@@ -1,4 +1,6 @@
-mod Sides
+mod Beside
+pub mod Until
 mod Sought
 mod Arranging
 pub mod Pairing
+mod Written

@@ -1,20 +1,18 @@
 -- Laws of the words that say which nodes are tried for a list: the words of its nodes the other way round, or a mark for each node; and the loops that write them. Assumes nothing.
 use native.Mathlib.Omega.{arith}
-use native.Mathlib.Numerals.{add-one}
 use native.Mathlib.Decide.{dec_le, ℕ_discrete}
 use mathlib.Core.Path.{◌≡◌, refl, sym, ap, ap₂, ◌∙◌}
 use mathlib.Core.Bool.{Bool, true, false, ◌&&◌, ◌||◌, and-false, and-true}
 use mathlib.Core.List.{List, [], ◌∷◌, ◌++◌, map, flat_map, append-nil, append_assoc}
 use Prim.Native.Nat.{ℕ, suc, ◌+◌, ◌*◌, ◌/◌, ◌%◌, ◌≤◌, ◌<◌}
 use lib.Dec.{eqb, ltb, leb}
-use lib.ListN.{length, take, drop, get_or, set, length-set, length-take}
-use lib.Seq.{slice, take-suc-set, append_snoc, drop-set-lt, drop-drop, get_or-drop, get_or-take, take_at}
+use lib.ListN.{length, take, get_or}
+use lib.Seq.{take_at}
 use borrow.Author.Tests.{lt-ltb, le-ltb, ltb-true, le-leb, lt-leb, eq-eqb, ne_eqb, eqb-true}
 use Rattle.rules.specs.Lists.{range, has, keep, sort_of, set_of}
 use Rattle.laws.specs.Strict.{From, Strict, below, from-lower}
 use Rattle.rules.specs.Store.{most_nodes, nodes_in, label_at}
 use Rattle.laws.specs.Cases.{first-holds, second-holds}
-use Rattle.laws.specs.Slices.{slice-next, slice-none}
 use Rattle.laws.specs.Sets.{same-members, has-sort, length-sort}
 use Rattle.laws.specs.Has.{first-has, has-append, later-has, has-get}
 use Rattle.laws.specs.Keep.{keep-yes, has-keep, keep-from, keep-whole, keep-same}
@@ -28,22 +26,7 @@ use Rattle.build_neighbours.specs.Pairs.{turned, marked, part_told, Paired}
 use Rattle.build_edges.proofs.Nearby.{either-side, labelled-strict}
 use Rattle.laws.specs.Range.{has-range}
 use Rattle.laws.specs.Distinct.{sort-strict, Distinct, strict-distinct, distinct-append}
-use Rattle.build_neighbours.proofs.Sides.{side-words, side-lows, side-strict}
-
--- ---- a loop that writes f of each of a list behind k words: what is written and what is to come are the whole
-pub record Mapped (f : ℕ → ℕ) (whole out : List ℕ) (k : ℕ) (left : List ℕ) : Type 0 where
-  pub fits : k + length left ≤ length out
-  pub todo : take k out ++ map f left ≡ whole
-
-module _ {f : ℕ → ℕ} {whole out : List ℕ} {k x : ℕ} {left : List ℕ} (g : Mapped f whole out k (x ∷ left)) where
-  pub put : (y : ℕ) → y ≡ f x → Mapped f whole (set out k y) (k + 1) left
-  put y e =
-      let fits = g.fits in
-      let q : take (k + 1) (set out k y) ≡ take k out ++ (y ∷ []) = rw add-one (take-suc-set out k y (omega arith)) in
-      record { fits = rw length-set (omega arith); todo = rw (q, append_snoc, e) g.todo }
-
-pub written : {f : ℕ → ℕ} {whole out : List ℕ} {k : ℕ} → Mapped f whole out k [] → take k out ≡ whole
-written {f} {whole} {out} {k} g = sym (append-nil (take k out)) ∙ g.todo
+use Rattle.build_neighbours.proofs.Beside.{side-words, side-lows, side-strict}
 
 -- ---- a loop that writes the words of each of a list behind one another
 pub record Gathering (f : ℕ → List ℕ) (whole out : List ℕ) (k : ℕ) (left : List ℕ) : Type 0 where
@@ -59,37 +42,6 @@ more {f} {whole} {out} {k} {v} {left} g {own} e q = record {
 pub gathered : {f : ℕ → List ℕ} {whole out : List ℕ} {k : ℕ} → Gathering f whole out k [] → take k out ≡ whole
 unfolding flat_map
 gathered {f} {whole} {out} {k} g = sym (append-nil (take k out)) ∙ g.todo
-
--- ---- a loop that marks the first n words in place: from i on the room is as it was
-pub record Marking (n : ℕ) (out₀ out : List ℕ) (i : ℕ) : Type 0 where
-  pub ahead : i ≤ n
-  pub same : length out ≡ length out₀
-  pub rest : drop i out ≡ drop i out₀
-  pub part : Mapped marked (map marked (take n out₀)) out i (slice i n out₀)
-
-pub mark-start : (n : ℕ) (out : List ℕ) → n ≤ length out → Marking n out out 0
-mark-start n out h = record { ahead = omega arith; same = refl; rest = refl; part = record { fits = rw length-take (omega arith); todo = refl } }
-
-module _ {n : ℕ} {out₀ out : List ℕ} {i : ℕ} (g : Marking n out₀ out i) where
-  pub mark-here : get_or out i 0 ≡ get_or out₀ i 0
-  mark-here =
-      let z : i + 0 ≡ i = omega arith in
-      rw z at (sym (get_or-drop i out 0 0) ∙ ap (λ l. get_or l 0 0) g.rest ∙ get_or-drop i out₀ 0 0)
-
-  pub mark-next : i < n → n ≤ length out₀ → Marking n out₀ (set out i (get_or out i 0 * 65536 + 65535)) (i + 1)
-  unfolding marked
-  mark-next h fits = record {
-    ahead = omega arith;
-    same = length-set out i (get_or out i 0 * 65536 + 65535) ∙ g.same;
-    rest = drop-set-lt (i + 1) out i (get_or out i 0 * 65536 + 65535) (omega arith) ∙ sym (drop-drop 1 i out) ∙ ap (drop 1) g.rest ∙ drop-drop 1 i out₀;
-    part = put (rw (slice-next i n out₀ h fits) at g.part) (get_or out i 0 * 65536 + 65535) (ap (λ x. x * 65536 + 65535) mark-here);
-  }
-
-  pub mark-done : n ≤ i → take n out ≡ map marked (take n out₀)
-  mark-done h =
-      let a = g.ahead in
-      let e : n ≡ i = omega arith in
-      ap (λ m. take m out) e ∙ written (rw (slice-none i n out₀ h) at g.part)
 
 -- ---- words with one low half
 module _ (v : ℕ) (low : v < 65536) where
@@ -359,12 +311,8 @@ module _ {nodes joined starts : List ℕ} (held : Held nodes joined starts) {l :
 pub node-low : {nodes joined starts list : List ℕ} {l : ℕ} → Held nodes joined starts → Listed nodes l list → (i : ℕ) → i < length list → get_or list i 0 < 65535
 node-low {nodes} {joined} {starts} {list} held listed i h = let a = listed-below listed (get_or list i 0) (has-get list i h) in let b = held.few in omega arith
 
-pub labelled-low : (nodes : List ℕ) (s : ℕ) (out : List ℕ) (n : ℕ) → nodes_in nodes ≤ most_nodes → n ≤ length out → take n out ≡ labelled_in nodes s → (i : ℕ) → i < n → get_or out i 0 ≤ 65535
-labelled-low nodes s out n few fits e i h =
-    let m : length (take n out) ≡ n = rw length-take (omega arith) in
-    let k = labelled-below nodes s (get_or (take n out) i 0) (ap (has (get_or (take n out) i 0)) (sym e) ∙ has-get (take n out) i (omega arith)) in
-    let q : get_or (take n out) i 0 ≡ get_or out i 0 = get_or-take n out i 0 h in
-    omega arith
+pub labelled-low : (nodes : List ℕ) (s : ℕ) (words : List ℕ) → nodes_in nodes ≤ most_nodes → words ≡ labelled_in nodes s → (i : ℕ) → i < length words → get_or words i 0 ≤ 65535
+labelled-low nodes s words few e i h = let k = labelled-below nodes s (get_or words i 0) (ap (has (get_or words i 0)) (sym e) ∙ has-get words i h) in omega arith
 
 pub paired-front : {nodes joined starts : List ℕ} (held : Held nodes joined starts) {l : ℕ} {list : List ℕ} (listed : Listed nodes l list) {s : ℕ} (w last rest : List ℕ) (k : ℕ)
     → k ≤ 65536 → w ≡ turned_of nodes joined s list → last ≡ sort_of w → length w ≡ k → (k ≤ 65536) × Paired nodes (set_of joined) s list (take k (last ++ rest))

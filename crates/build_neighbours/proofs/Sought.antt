@@ -14,14 +14,13 @@ use Rattle.rules.specs.Lists.{has, keep, halving}
 use Rattle.laws.specs.Strict.{From, Strict, from-lower}
 use Rattle.rules.specs.Store.{label_at}
 use Rattle.laws.specs.Cases.{second-holds}
-use Rattle.laws.specs.Halving.{HalvingLeft, half-start}
 use Rattle.laws.specs.PartMembers.{part-slice}
 use Rattle.laws.specs.Has.{has-get}
 use Rattle.laws.specs.Keep.{keep-yes, keep-no, has-keep, keep-keep}
 use Rattle.laws.specs.Searching.{is_below, lower, between, range-of, lower-order, lower-within}
 use Rattle.build_edges.specs.Near.{words_of}
 use Rattle.build_neighbours.specs.Side.{place_of, places, Arranged, side_in}
-use Rattle.build_neighbours.proofs.Sides.{mine}
+use Rattle.build_neighbours.proofs.Beside.{mine}
 
 -- ---- a search among the places
 pub node-room : {nodes words : List ℕ} (i : ℕ) → Arranged nodes words → i < length words → get_or words i 0 % 65536 * 8 + 8 ≤ length nodes
@@ -35,12 +34,9 @@ place-word nodes (w ∷ words) (suc i) h = place-word nodes words i (omega arith
 pub below-place : {nodes words : List ℕ} (x i p : ℕ) → Arranged nodes words → i < length words → p ≡ place_of nodes (get_or words i 0) → ltb p x ≡ is_below (places nodes words) x i
 below-place {nodes} {words} x i p r h e = ap (λ y. ltb y x) (e ∙ sym (place-word nodes words i h))
 
-whole-search : (nodes words : List ℕ) (x : ℕ) → lower x (places nodes words) ≡ halving (is_below (places nodes words) x) (length words) 0 (length words)
+pub whole-search : (nodes words : List ℕ) (x : ℕ) → lower x (places nodes words) ≡ halving (is_below (places nodes words) x) (length words) 0 (length words)
 unfolding lower
 whole-search nodes words x = rw (length-map words (place_of nodes))
-
-pub search-start : {nodes words : List ℕ} (x : ℕ) → Arranged nodes words → HalvingLeft (is_below (places nodes words) x) (length words) 0 (length words) (lower x (places nodes words))
-search-start {nodes} {words} x r = rw (whole-search nodes words x) (half-start (is_below (places nodes words) x) (length words))
 
 -- ---- the words between two places
 module _ {A B : Type 0} (f : A → B) where

@@ -6,6 +6,7 @@ use Rattle.rules.specs.Store.{most_nodes, nodes_in, label_at}
 use Rattle.build_edges.specs.Packed.{word_in, labelled_in}
 use Rattle.build_edges.specs.Near.{is_labelled, Joined}
 use Rattle.build_edges.specs.Starts.{Begun}
+use Rattle.build_neighbours.specs.declared.Sides.{Sides}
 
 -- the place of a word: its node, then the label and the id of its neighbour
 unfoldable pub place_of : List ℕ → ℕ → ℕ
@@ -33,6 +34,9 @@ pub record Held (nodes joined starts : List ℕ) : Type 0 where
   pub arranged : Arranged nodes joined
   pub both : Joined (set_of joined)
   pub begun : Begun joined starts
+
+abbrev pub Holds : Sides → Type 0
+Holds sides = Held sides.nodes.now sides.joined.now sides.starts.now
 
 -- an ascending list of nodes labelled l
 pub record Listed (nodes : List ℕ) (l : ℕ) (list : List ℕ) : Type 0 where

@@ -7,19 +7,24 @@ ghost use Rattle.build_edges.specs.Starts.{Climbs};
 ghost use Rattle.build_neighbours.specs.Side.{Arranged};
 ghost use Rattle.build_neighbours.specs.Arrange.{key_of, word_for, arranged_one, arranged_all};
 
+use crate::mapping::map_into;
 use crate::pairs::run_end;
+
+// The label and the id of a word's neighbour, as a word.
+fn key(nodes: &[u8], w: u32) -> u32
+    requires { w % 65536 < nodes_in nodes.now }
+    ensures { result ≡ key_of nodes.now w }
+{
+    let u = w % 65536;
+    u32::from(store::label_at(nodes, u as usize)) * 65536 + u
+}
 
 // Writes the label and the id of each word's neighbour, as a word, over the front of keys.
 fn put_keys(nodes: &[u8], words: &[u32], keys: &mut [u32])
     requires { (length words.now ≤ length keys.old) × ((w : ℕ) → has w words.now ≡ true → w % 65536 < nodes_in nodes.now) }
     ensures { keys.new ≡ map (key_of nodes.now) words.now ++ drop (length words.now) keys.old }
 {
-    let mut i = 0;
-    while i < words.len() {
-        let u = words[i] % 65536;
-        keys[i] = store::label_at(nodes, u as usize) as u32 * 65536 + u;
-        i += 1;
-    }
+    map_into(words, keys, |w| key(nodes, w));
 }
 
 // Writes the words of v and the ids of the keys over the front of words.
@@ -27,11 +32,7 @@ fn put_words(v: u32, keys: &[u32], words: &mut [u32])
     requires { (v < 65536) × (length keys.now ≤ length words.old) }
     ensures { words.new ≡ map (word_for v) keys.now ++ drop (length keys.now) words.old }
 {
-    let mut i = 0;
-    while i < keys.len() {
-        words[i] = v * 65536 + keys[i] % 65536;
-        i += 1;
-    }
+    map_into(keys, words, |key| v * 65536 + key % 65536);
 }
 
 // Puts the words of one node in the order of their places.
@@ -51,6 +52,7 @@ fn arrange_all(nodes: &[u8], words: &mut [u32], keys: &mut [u32], scratch: &mut 
     requires { ((65536 ≤ length keys.old) × (65536 ≤ length scratch.old)) × (Strict words.old × ((w : ℕ) → has w words.old ≡ true → w % 65536 < nodes_in nodes.now)) }
     ensures { words.new ≡ arranged_all nodes.now words.old }
 {
+    // Stays a while: the slices of std have no chunk_by_mut, and a run's end is known only once it is reached.
     let mut i = 0;
     while i < words.len() {
         let end = i + run_end(&words[i..], 0);

@@ -1,21 +1,21 @@
 // The neighbours of a node with one label: among arranged words they stand together.
 ghost use Rattle.std.specs.Prelude.{◌≡◌, ℕ, ◌+◌, ◌*◌, ◌/◌, ◌%◌, ◌≤◌, ◌<◌, length, take, get_or};
 ghost use Rattle.rules.specs.Lists.{keep, set_of};
-ghost use Rattle.laws.specs.Searching.{is_below, lower};
+ghost use Rattle.laws.specs.Searching.{lower};
 ghost use Rattle.build_edges.specs.Packed.{word_in, labelled_in};
 ghost use Rattle.laws.specs.Lows.{lows};
 ghost use Rattle.build_edges.specs.Starts.{Begun};
 ghost use Rattle.build_neighbours.specs.Useful.{reaches};
 ghost use Rattle.build_neighbours.specs.Left.{labels_in};
-ghost use Rattle.build_neighbours.specs.Side.{place_of, places, Arranged, side_in, side_of, Held};
+ghost use Rattle.build_neighbours.specs.Side.{place_of, places, Arranged, side_in, side_of, Holds};
 
-use crate::Labels;
+use crate::{Labels, Sides};
 
 // The place of a word whose neighbour is labelled l.
 fn place(w: u32, l: u16) -> u64
     ensures { result ≡ w / 65536 * 4294967296 + l * 65536 + w % 65536 }
 {
-    (w / 65536) as u64 * 4294967296 + l as u64 * 65536 + (w % 65536) as u64
+    u64::from(w / 65536) * 4294967296 + u64::from(l) * 65536 + u64::from(w % 65536)
 }
 
 // The place of word i: its node, then the label and the id of its neighbour.
@@ -28,30 +28,12 @@ fn place_at(nodes: &[u8], words: &[u32], i: usize) -> u64
     place(w, l)
 }
 
-// Whether the place of word i is below x.
-fn place_below(nodes: &[u8], words: &[u32], x: u64, i: usize) -> bool
-    requires { (i < length words.now) × Arranged nodes.now words.now }
-    ensures { result ≡ is_below (places nodes.now words.now) x i }
-{
-    place_at(nodes, words, i) < x
-}
-
 // The first word whose place is not below x, or their number if there is none.
 fn lower_place(nodes: &[u8], words: &[u32], x: u64) -> usize
     requires { Arranged nodes.now words.now }
     ensures { (result ≡ lower x (places nodes.now words.now)) × (result ≤ length words.now) }
 {
-    let mut low = 0;
-    let mut high = words.len();
-    while low < high {
-        let mid = (low + high) / 2;
-        if place_below(nodes, words, x, mid) {
-            low = mid + 1;
-        } else {
-            high = mid;
-        }
-    }
-    low
+    order::first_from(words.len(), |i| place_at(nodes, words, i) < x)
 }
 
 // The words of v and its neighbours labelled l.
@@ -59,82 +41,55 @@ fn side<'a>(nodes: &[u8], words: &'a [u32], v: u32, l: u16) -> &'a [u32]
     requires { (v < 65535) × Arranged nodes.now words.now }
     ensures { result.now ≡ side_in nodes.now words.now v l }
 {
-    let x = v as u64 * 4294967296 + l as u64 * 65536;
+    let x = u64::from(v) * 4294967296 + u64::from(l) * 65536;
     let start = lower_place(nodes, words, x);
     let end = lower_place(nodes, words, x + 65536);
     &words[start..end]
 }
 
 // The same, where it is at hand where the words of each node start.
-pub fn side_of<'a>(nodes: &[u8], joined: &'a [u32], starts: &[u32], v: u32, l: u16) -> &'a [u32]
-    requires { (v < 65535) × (Arranged nodes.now joined.now × Begun joined.now starts.now) }
-    ensures { result.now ≡ side_in nodes.now joined.now v l }
+pub fn side_of<'a>(sides: Sides<'a>, v: u32, l: u16) -> &'a [u32]
+    requires { (v < 65535) × (Arranged sides.nodes.now sides.joined.now × Begun sides.joined.now sides.starts.now) }
+    ensures { result.now ≡ side_in sides.entry.nodes.now sides.entry.joined.now v l }
 {
-    let words = build_edges::run_of(joined, starts, v);
-    side(nodes, words, v, l)
+    let words = build_edges::run_of(sides.joined, sides.starts, v);
+    side(sides.nodes, words, v, l)
 }
 
 // Whether v has a neighbour of each label.
-fn has_each(nodes: &[u8], joined: &[u32], starts: &[u32], left: Labels, v: u32) -> bool
-    requires { (v < 65535) × Held nodes.now joined.now starts.now }
-    ensures { result ≡ reaches (word_in (set_of joined.now)) (labelled_in nodes.now) (labels_in left) v }
+fn has_each(sides: Sides, left: Labels, v: u32) -> bool
+    requires { (v < 65535) × Holds sides }
+    ensures { result ≡ reaches (word_in (set_of sides.entry.joined.now)) (labelled_in sides.entry.nodes.now) (labels_in left) v }
 {
-    if left.first == 0 {
-        return true;
+    for label in [left.first, left.second, left.third] {
+        if label == 0 {
+            return true;
+        }
+        if side_of(sides, v, label).is_empty() {
+            return false;
+        }
     }
-    if side_of(nodes, joined, starts, v, left.first).len() == 0 {
-        return false;
-    }
-    if left.second == 0 {
-        return true;
-    }
-    if side_of(nodes, joined, starts, v, left.second).len() == 0 {
-        return false;
-    }
-    if left.third == 0 {
-        return true;
-    }
-    side_of(nodes, joined, starts, v, left.third).len() != 0
+    true
 }
 
 // Leaves the low halves of words that have a neighbour of each label at the front of out, and returns how many they are.
-fn keep_useful(
-    nodes: &[u8],
-    joined: &[u32],
-    starts: &[u32],
-    left: Labels,
-    words: &[u32],
-    out: &mut [u32],
-) -> usize
-    requires { (length words.now ≤ length out.old) × (((i : ℕ) → i < length words.now → get_or words.now i 0 % 65536 < 65535) × Held nodes.now joined.now starts.now) }
-    ensures { (result ≤ length words.now) × (take result out.new ≡ keep (reaches (word_in (set_of joined.now)) (labelled_in nodes.now) (labels_in left)) (lows words.now)) }
+fn keep_useful(sides: Sides, left: Labels, words: &[u32], out: &mut [u32]) -> usize
+    requires { (length words.now ≤ length out.old) × (((i : ℕ) → i < length words.now → get_or words.now i 0 % 65536 < 65535) × Holds sides) }
+    ensures { (result ≤ length words.now) × (take result out.new ≡ keep (reaches (word_in (set_of sides.entry.joined.now)) (labelled_in sides.entry.nodes.now) (labels_in left)) (lows words.now)) }
 {
-    let mut k = 0;
-    let mut i = 0;
-    while i < words.len() {
-        let v = words[i] % 65536;
-        i += 1;
-        if has_each(nodes, joined, starts, left, v) {
-            out[k] = v;
-            k += 1;
-        }
-    }
-    k
+    order::keep_front(
+        words.len(),
+        |i| words[i] % 65536,
+        |v| has_each(sides, left, v),
+        out,
+    )
 }
 
 // Leaves the neighbours of u labelled l that have a neighbour of each label left, ascending, at the front of out, and returns how many they are.
-pub fn useful(
-    nodes: &[u8],
-    joined: &[u32],
-    starts: &[u32],
-    l: u16,
-    left: Labels,
-    u: u32,
-    out: &mut [u32],
-) -> usize
-    requires { (u < 65535) × ((65536 ≤ length out.old) × Held nodes.now joined.now starts.now) }
-    ensures { (result ≤ 65536) × (take result out.new ≡ keep (reaches (word_in (set_of joined.now)) (labelled_in nodes.now) (labels_in left)) (side_of nodes.now (set_of joined.now) u l)) }
+pub fn useful(sides: Sides, l: u16, left: Labels, u: u32, out: &mut [u32]) -> usize
+    requires { (u < 65535) × ((65536 ≤ length out.old) × Holds sides) }
+    ensures { (result ≤ 65536) × (take result out.new ≡ keep (reaches (word_in (set_of sides.entry.joined.now)) (labelled_in sides.entry.nodes.now) (labels_in left)) (side_of sides.entry.nodes.now (set_of sides.entry.joined.now) u l)) }
 {
-    let words = side_of(nodes, joined, starts, u, l);
-    keep_useful(nodes, joined, starts, left, words, out)
+    let words = side_of(sides, u, l);
+    keep_useful(sides, left, words, out)
 }

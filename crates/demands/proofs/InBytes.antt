@@ -17,8 +17,8 @@ use Rattle.rules.specs.Index.{no_id, Group, entries_of, keys_of, groups_of, inde
 use Rattle.rules.specs.Listing.{key_of, equals, low_of, found_at, found, inside, list_part, rule_broken, entry_list, read_found, reader_of}
 use Rattle.rules.specs.declared.Constraint.{Constraint}
 use Rattle.rules.specs.declared.Entry.{Entry}
-use Rattle.rules.specs.declared.Found.{Found}
-use Rattle.rules.specs.declared.Found.TheVariants.{At, Nothing}
+use Rattle.rules.specs.Listing.{Found}
+use Rattle.std.specs.Prelude.{Some, None}
 use Rattle.laws.specs.Cases.{first-holds, second-holds, never-some}
 use Rattle.laws.specs.Every.{Every, every-more, every-map, every-flat, every-kept, every-range, every-at}
 use Rattle.laws.specs.Beside.{Beside, beside-length, beside-at}
@@ -74,13 +74,13 @@ module _ (nodes : List ℕ) (d : Constraint) (entries : List ℕ) where
 
   told : (o : Found) (l : List Entry) → read_found nodes d entries o ≡ some l → read_found nodes d entries o ≡ some (entries_within (found_bytes entries o))
   unfolding read_found found_bytes
-  told Nothing l e = unfold entry_list range in refl
-  told (At start count) l e = go (eqb (rule_broken nodes d entries start count) 0) refl e
+  told None l e = unfold entry_list range in refl
+  told (Some at) l e = go (eqb (rule_broken nodes d entries at.start at.count) 0) refl e
     where
-      go : (t : Bool) → eqb (rule_broken nodes d entries start count) 0 ≡ t
-          → ◌≡◌ {A = Option (List Entry)} (cond t (some (entry_list (list_part entries start count) count)) none) (some l)
-          → ◌≡◌ {A = Option (List Entry)} (cond t (some (entry_list (list_part entries start count) count)) none) (some (entry_list (list_part entries start count) (length (list_part entries start count) / 8)))
-      go true q k = rw (count-is start count (eqb-true _ _ q))
+      go : (t : Bool) → eqb (rule_broken nodes d entries at.start at.count) 0 ≡ t
+          → ◌≡◌ {A = Option (List Entry)} (cond t (some (entry_list (list_part entries at.start at.count) at.count)) none) (some l)
+          → ◌≡◌ {A = Option (List Entry)} (cond t (some (entry_list (list_part entries at.start at.count) at.count)) none) (some (entry_list (list_part entries at.start at.count) (length (list_part entries at.start at.count) / 8)))
+      go true q k = rw (count-is at.start at.count (eqb-true _ _ q))
       go false q k = absurd (never-some k)
 
 -- the keys of two groups with the same words are the same

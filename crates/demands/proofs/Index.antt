@@ -16,7 +16,7 @@ use Rattle.rules.specs.Index.{some_exceeds, Group, keys_of, list_of, entries_of,
 use Rattle.rules.specs.Listing.{reader_of, read_found, found, key_of, inside, list_part, entry_list, rule_broken}
 use Rattle.rules.specs.declared.Constraint.{Constraint}
 use Rattle.rules.specs.declared.Entry.{Entry}
-use Rattle.rules.specs.declared.Found.TheVariants.{At}
+use Rattle.std.specs.Prelude.{Some, None}
 use Rattle.laws.specs.Cases.{and-yes, first-holds, second-holds}
 use Rattle.laws.specs.Header.{Limits, header-limits}
 use Rattle.laws.specs.All.{all-append, all-map, all-map-by, all-flat-by, all-kept, all-has}
@@ -112,7 +112,7 @@ module _ (nodes edges constraints : List ℕ) (few : nodes_in nodes ≤ most_nod
     read-filled whole =
         let start = entry_total around.before in
         let n = length (list_of g d ids) in
-        let at : found (group_bytes 0 index) (key_of c ids) ≡ At start (length own.entries) =
+        let at : found (group_bytes 0 index) (key_of c ids) ≡ Some (record { start = start; count = length own.entries }) =
         found-own c ids index around.before around.after fits around.lower around.upper own whole refl in
         let stands : list_part (entry_bytes index) start (length own.entries) ≡ list_bytes own.entries = rw whole (list-part around.before own around.after) in
         let total : entry_total index ≡ start + entry_total (own ∷ around.after) = ap entry_total whole ∙ total-append around.before (own ∷ around.after) in

@@ -19,8 +19,8 @@ use Rattle.rules.specs.Listing.{Reader, Read, read_found, reader_of, list_part, 
 use Rattle.rules.specs.declared.Constraint.{Constraint}
 use Rattle.rules.specs.declared.Row.{Row}
 use Rattle.rules.specs.declared.Entry.{Entry}
-use Rattle.rules.specs.declared.Found.{Found}
-use Rattle.rules.specs.declared.Found.TheVariants.{At, Nothing}
+use Rattle.rules.specs.Listing.{Found}
+use Rattle.std.specs.Prelude.{Some, None}
 use Rattle.laws.specs.Keep.{keep-most}
 use Rattle.laws.specs.Fitness.{fit-most}
 use Rattle.laws.specs.Covering.{rows-next, rows-stop, rows-zero}
@@ -35,14 +35,14 @@ use Rattle.demands.specs.Within.{Short, RowGiven, RowsGiven, figures-sum, read_s
 -- ---- lists have at most N entries
 found-short : (nodes : List ℕ) (c : Constraint) (entries : List ℕ) (f : Found) (l : List Entry) → read_found nodes c entries f ≡ some l → length l ≤ c.most
 unfolding read_found
-found-short nodes c entries (At start count) l e = go (eqb (rule_broken nodes c entries start count) 0) refl e
+found-short nodes c entries (Some at) l e = go (eqb (rule_broken nodes c entries at.start at.count) 0) refl e
   where
-    go : (t : Bool) → eqb (rule_broken nodes c entries start count) 0 ≡ t → cond t (some (entry_list (list_part entries start count) count)) none ≡ some l → length l ≤ c.most
+    go : (t : Bool) → eqb (rule_broken nodes c entries at.start at.count) 0 ≡ t → cond t (some (entry_list (list_part entries at.start at.count) at.count)) none ≡ some l → length l ≤ c.most
     go true b q =
-        let size = ap length (some-injective (entry_list (list_part entries start count) count) l q) in
-        omega (arith, length-entries (list_part entries start count) count, fit-most nodes c entries start count (eqb-true (rule_broken nodes c entries start count) 0 b))
+        let size = ap length (some-injective (entry_list (list_part entries at.start at.count) at.count) l q) in
+        omega (arith, length-entries (list_part entries at.start at.count) at.count, fit-most nodes c entries at.start at.count (eqb-true (rule_broken nodes c entries at.start at.count) 0 b))
     go false b q = absurd (none-ne-some l q)
-found-short nodes c entries Nothing l e = rw (sym (some-injective [] l e)) (omega arith)
+found-short nodes c entries None l e = rw (sym (some-injective [] l e)) (omega arith)
 
 -- so too of the reader of any store
 pub reader-short : (nodes constraints groups entries : List ℕ) → Short constraints (reader_of nodes constraints groups entries)

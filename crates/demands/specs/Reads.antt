@@ -10,8 +10,8 @@ use Rattle.rules.specs.Listing.{key_of, found, list_part, entry_list, Reader, Ga
 use Rattle.laws.specs.Outcomes.{list_refusal}
 use Rattle.rules.specs.declared.Row.{Row}
 use Rattle.rules.specs.declared.Entry.{Entry}
-use Rattle.rules.specs.declared.Found.{Found}
-use Rattle.rules.specs.declared.Found.TheVariants.{At, Nothing}
+use Rattle.rules.specs.Listing.{Found}
+use Rattle.std.specs.Prelude.{Some, None}
 use Rattle.laws.specs.Every.{Every}
 
 -- ---- what listing reads
@@ -69,8 +69,8 @@ pub record AlikeIn (r q : Reader) (x : ListRead) : Type 0 where
 -- ---- alike in bytes
 -- the bytes of a list: the part of the entries that its key's group names, none where the key has no group
 unfoldable pub found_bytes : List ℕ → Found → List ℕ
-found_bytes entries (At start count) = list_part entries start count
-found_bytes entries Nothing = []
+found_bytes entries (Some at) = list_part entries at.start at.count
+found_bytes entries None = []
 
 abbrev pub bytes_read : List ℕ → ListRead → List ℕ
 bytes_read s x = found_bytes (entry_part s) (found (group_part s) (key_of x.constraint x.key))

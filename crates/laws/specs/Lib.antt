@@ -23,6 +23,7 @@ pub mod Sums
 pub mod Slices
 -- rooms, words and bytes
 pub mod Over
+pub mod Copied
 pub mod Writing
 pub mod Rooms
 pub mod Same
@@ -37,6 +38,7 @@ pub mod Turns
 pub mod Searching
 -- the store: its parts, header, constraints, keys, groups and lists
 pub mod Header
+pub mod Pairs
 pub mod Parts
 pub mod PartMembers
 pub mod Sections

@@ -13,8 +13,8 @@ use Rattle.rules.specs.Words.{u32_at}
 use Rattle.rules.specs.Lists.{all}
 use Rattle.rules.specs.Store.{groups_in}
 use Rattle.rules.specs.Index.{Group, group_bytes, entry_total}
-use Rattle.rules.specs.Listing.{precedes, equals, key_of, low_of, found_at, found}
-use Rattle.rules.specs.declared.Found.TheVariants.{At, Nothing}
+use Rattle.rules.specs.Listing.{precedes, equals, key_of, low_of, bounds_at, found_at, found}
+use Rattle.std.specs.Prelude.{Some, None}
 use Rattle.laws.specs.Searching.{Splits, halving-finds}
 use Rattle.laws.specs.GroupBytes.{group-length, are_words, no_group, GroupAt, group-at, group-precedes, group-equals, group-other}
 use Rattle.laws.specs.Places.{ahead, ahead-self, ahead-after, group_words, key_words}
@@ -78,7 +78,7 @@ module _ (c : ℕ) (ids : List ℕ) (groups before after : List Group) (fits : F
 
   -- the group of the key is found: its list starts where the lists before it end
   pub found-own : (x : Group) → groups ≡ before ++ x ∷ after → group_words x ≡ key_words c ids
-      → found (group_bytes 0 groups) (key_of c ids) ≡ At (entry_total before) (length x.entries)
+      → found (group_bytes 0 groups) (key_of c ids) ≡ Some (record { start = entry_total before; count = length x.entries })
   unfolding found found_at
   found-own x whole e =
       let n = length before in
@@ -95,9 +95,9 @@ module _ (c : ℕ) (ids : List ℕ) (groups before after : List Group) (fits : F
       rw (low, lt-ltb n (groups_in bytes) (omega (arith, groups-counted groups)), group-equals bytes c ids n x (entry_total before) r e, r.start, r.count)
 
   -- a key with no group is not found
-  pub found-none : groups ≡ before ++ after → found (group_bytes 0 groups) (key_of c ids) ≡ Nothing
+  pub found-none : groups ≡ before ++ after → found (group_bytes 0 groups) (key_of c ids) ≡ None
   unfolding found found_at
-  found-none whole = rw low (ap (λ t. cond t (At (u32_at bytes (n * 24 + 16)) (u32_at bytes (n * 24 + 20))) Nothing) (go (dec_le (groups_in bytes) n)))
+  found-none whole = rw low (ap (λ t. cond t (Some (bounds_at bytes n)) None) (go (dec_le (groups_in bytes) n)))
     where
       n : ℕ
       n = length before

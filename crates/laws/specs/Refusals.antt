@@ -1,5 +1,5 @@
 -- Orders of refusals: which number is the first that is given, and what the numbers of the calls say. Assumes nothing.
-use Rattle.std.specs.Prelude.{◌≡◌, Bool, true, false, ◌||◌, List, [], ◌∷◌, ◌++◌, ℕ, ◌+◌, ◌*◌, ltb, eqb, length}
+use Rattle.std.specs.Prelude.{◌≡◌, Bool, true, false, ◌||◌, List, [], ◌∷◌, ◌++◌, ℕ, ◌+◌, ◌*◌, ltb, eqb, length, get_or, Result, Ok, Err}
 use Rattle.std.proofs.Math.Path.{refl}
 use Rattle.std.proofs.Common.{sym, ap, ◌∙◌, arith, eqb-true, eq-eqb, ne_eqb}
 use Rattle.std.proofs.Math.Bool.{not}
@@ -9,6 +9,9 @@ use Rattle.rules.specs.Index.{exceeds, too_many, store_of}
 use Rattle.rules.specs.Pattern.{size_of, edges_of, pattern_right}
 use Rattle.rules.specs.Plan.{most_read, all_covered, bound}
 use Rattle.rules.specs.Answers.{◌when◌, first_of, build_number, same, admit_number, plan_number}
+use Rattle.rules.specs.Refused.{refusal_number, number_of}
+use Rattle.rules.specs.declared.Refusal.{Refusal}
+use Rattle.rules.specs.declared.Refusal.TheVariants.{Header, Record, Constraint, LongList, Unfit, Pattern, Uncovered, Bound, Work, Room, Index}
 use Rattle.laws.specs.Cases.{or-first, or-second}
 
 -- ---- one number before others
@@ -189,3 +192,45 @@ pub plan-number : (s b room : List ℕ)
     ≡ first_of (1 when not (header_right s) ∷ bound_number (constraint_part s) b ∷ 10 when ltb (length room) ((size_of b + edges_of b) * 8) ∷ [])
 unfolding plan_number bound_number
 plan-number s b room = first-same (1 when not (header_right s)) _ _ (sym (first-flat _ (10 when ltb (length room) ((size_of b + edges_of b) * 8) ∷ [])))
+
+-- ---- a refusal and its number
+-- the refusal with a number
+abbrev refusal_at : ℕ → Refusal
+refusal_at n =
+    get_or (Header ∷ Header ∷ Record ∷ Constraint ∷ LongList ∷ Unfit ∷ Pattern ∷ Uncovered ∷ Bound ∷ Work ∷ Room ∷ Index ∷ []) n Header
+
+refusal-back : (r : Refusal) → refusal_at (refusal_number r) ≡ r
+refusal-back Header = refl
+refusal-back Record = refl
+refusal-back Constraint = refl
+refusal-back LongList = refl
+refusal-back Unfit = refl
+refusal-back Pattern = refl
+refusal-back Uncovered = refl
+refusal-back Bound = refl
+refusal-back Work = refl
+refusal-back Room = refl
+refusal-back Index = refl
+
+-- no two have the same
+pub refusal-one : (r q : Refusal) → refusal_number r ≡ refusal_number q → r ≡ q
+refusal-one r q e = sym (refusal-back r) ∙ ap refusal_at e ∙ refusal-back q
+
+-- none has 0
+pub refusal-given : (r : Refusal) → eqb (refusal_number r) 0 ≡ false
+refusal-given Header = refl
+refusal-given Record = refl
+refusal-given Constraint = refl
+refusal-given LongList = refl
+refusal-given Unfit = refl
+refusal-given Pattern = refl
+refusal-given Uncovered = refl
+refusal-given Bound = refl
+refusal-given Work = refl
+refusal-given Room = refl
+refusal-given Index = refl
+
+-- a call that gives number 0 answers, and any other number says which refusal it gives
+pub refused-one : {A : Type 0} (x : Result A Refusal) (r : Refusal) → number_of x ≡ refusal_number r → x ≡ Err r
+refused-one (Ok a) r e = absurd (eqb-false (refusal_number r) 0 (refusal-given r) (sym e))
+refused-one (Err q) r e = ap Err (refusal-one q r e)

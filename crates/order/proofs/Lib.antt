@@ -1,3 +1,4 @@
 mod Ascending
 mod Merged
 mod Settling
+mod FewSorted

@@ -1,1 +1,2 @@
 mod Keeping
+mod Kept

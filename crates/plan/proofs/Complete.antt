@@ -16,7 +16,9 @@ use Rattle.laws.specs.Keep.{keep-most}
 use Rattle.laws.specs.Covering.{uncovered, uncovered-less, next-says, next-positive, ways-uncovered, edge-some}
 use Rattle.laws.specs.Smallest.{smallest-all}
 use Rattle.laws.specs.Range.{length-range}
-use Rattle.plan.specs.Plans.{refused_plan, answered_plan, bounded_plan, covered_plan}
+use Rattle.std.specs.Prelude.{Ok, Err}
+use Rattle.rules.specs.declared.Refusal.TheVariants.{Bound}
+use Rattle.plan.specs.Plans.{answered_plan, bounded_plan, covered_plan}
 use Rattle.plan.specs.declared.PlanRows.{PlanRows}
 use Rattle.laws.specs.Rows.{node-few, edge-few, words-length}
 
@@ -93,15 +95,15 @@ module _ (constraints b : List ℕ) (right : constraints_right constraints ≡ t
       rw (nodes-all (omega arith)) (edges-all (omega arith))
 
   -- an answered plan has the words of its rows
-  answered-length : (x : PlanRows) → x ≡ bounded_plan constraints b → x.number ≡ 0 → length (plan_words constraints b) ≡ x.length
-  unfolding bounded_plan answered_plan refused_plan
-  answered-length x e z = go (leb (bound constraints b) most_read) refl
+  answered-length : (x : PlanRows) → Ok x ≡ bounded_plan constraints b → length (plan_words constraints b) ≡ x.length
+  unfolding bounded_plan answered_plan
+  answered-length x e = go (leb (bound constraints b) most_read) refl
     where
       go : (t : Bool) → leb (bound constraints b) most_read ≡ t → length (plan_words constraints b) ≡ x.length
-      go true h = rw (e, h)
-      go false h = let k : ◌≡◌ {A = ℕ} 8 0 = rw (e, h) at z in absurd (omega arith)
+      go true h = let k : Ok x ≡ Ok (answered_plan constraints b) = rw h at e in let same : x ≡ answered_plan constraints b = cc in rw same
+      go false h = let k : Ok x ≡ Err Bound = rw h at e in cc
 
   -- so a plan that is answered with all its rows is the plan
-  pub plan-complete : (x : PlanRows) (n : ℕ) → x ≡ bounded_plan constraints b → x.number ≡ 0 → n ≡ (size_of b + edges_of b) * 8 → x.length ≡ n → x ≡ covered_plan constraints b
+  pub plan-complete : (x : PlanRows) (n : ℕ) → Ok x ≡ bounded_plan constraints b → n ≡ (size_of b + edges_of b) * 8 → x.length ≡ n → Ok x ≡ covered_plan constraints b
   unfolding covered_plan
-  plan-complete x n e z m l = e ∙ rw (complete-covered (answered-length x e z ∙ l ∙ m))
+  plan-complete x n e m l = e ∙ rw (complete-covered (answered-length x e ∙ l ∙ m))

@@ -1,6 +1,5 @@
 -- Laws of the loop that writes the edge rows. Assumes nothing.
-use mathlib.Core.Path.{◌≡◌, sym}
-use mathlib.Core.Bool.{true, false, false≢true}
+use mathlib.Core.Path.{◌≡◌, refl, sym, ◌∙◌}
 use mathlib.Core.List.{List, ◌∷◌, flat_map}
 use mathlib.Core.Option.{some, none}
 use Prim.Native.Nat.{ℕ, suc, ◌+◌, ◌-◌, ◌*◌, ◌≤◌, ◌<◌}
@@ -8,78 +7,80 @@ use native.Mathlib.Nat.{sub-zero}
 use native.Mathlib.Omega.{arith}
 use lib.ListN.{length}
 use Rattle.rules.specs.Lists.{range}
-use Rattle.rules.specs.Words.{over}
 use Rattle.rules.specs.Pattern.{edges_of}
-use Rattle.rules.specs.Plan.{smallest, edge_ways, listed, edge_rows, figures_of, row_words}
+use Rattle.rules.specs.Plan.{smallest, edge_ways, listed, edge_rows, figures_of}
 use Rattle.rules.specs.declared.Row.{Row}
 use Rattle.plan_rows.specs.declared.Stand.{Stand}
-use Rattle.plan_rows.specs.Rows.{stand_of, Standing, EdgesDone}
+use Rattle.std.specs.Prelude.{Result, Ok, Err, IsErr}
+use Rattle.plan_rows.specs.declared.TooMuch.{TooMuch}
+use Rattle.plan_rows.specs.Rows.{Standing, Pushed, EdgesDone}
 use Rattle.plan_rows.proofs.Going.{RowsGoing, going-start, going-next, going-above, going-done}
 
 -- the rows of the edges from j on
 abbrev pub edges_from : List ℕ → List ℕ → List ℕ → ℕ → List Row
 edges_from constraints b figures j = flat_map (λ j. listed (smallest (edge_ways constraints b figures j))) (range j (edges_of b - j))
 
--- the edge rows that are left decide the whole
-pub record EdgesGoing (constraints b figures rows₀ rows : List ℕ) (count₀ sum₀ count sum j : ℕ) : Type 0 where
+-- the edge rows that are left from j on decide the whole
+pub record EdgesGoing (constraints b : List ℕ) (nodes : Stand) (rows₀ rows : List ℕ) (j : ℕ) (s : Stand) : Type 0 where
   pub within : j ≤ edges_of b
-  pub few : count ≤ count₀ + j
-  pub going : RowsGoing (edges_from constraints b figures j) (edge_rows constraints b) count₀ sum₀ rows₀ rows count sum
+  pub few : s.count ≤ nodes.count + j
+  pub same : s.figures ≡ nodes.figures
+  pub going : RowsGoing (edges_from constraints b nodes.figures j) (edge_rows constraints b) nodes.count nodes.sum rows₀ rows s.count s.sum
 
-pub edges-start : (constraints b figures rows₀ : List ℕ) (count₀ sum₀ : ℕ) → figures ≡ figures_of constraints b → EdgesGoing constraints b figures rows₀ rows₀ count₀ sum₀ count₀ sum₀ 0
+pub edges-start : (constraints b : List ℕ) (nodes : Stand) (rows₀ : List ℕ) → nodes.figures ≡ figures_of constraints b → EdgesGoing constraints b nodes rows₀ rows₀ 0 nodes
 unfolding edge_rows
-edges-start constraints b figures rows₀ count₀ sum₀ e =
-    record { within = omega arith; few = omega arith; going = rw (sub-zero, e) (going-start (edge_rows constraints b) count₀ sum₀ rows₀) }
+edges-start constraints b nodes rows₀ e =
+    record { within = omega arith; few = omega arith; same = refl; going = rw (sub-zero, e) (going-start (edge_rows constraints b) nodes.count nodes.sum rows₀) }
 
-module _ {constraints b figures rows₀ rows : List ℕ} {count₀ sum₀ count sum j : ℕ} (inv : EdgesGoing constraints b figures rows₀ rows count₀ sum₀ count sum j) where
+module _ {constraints b : List ℕ} {nodes : Stand} {rows₀ rows : List ℕ} {j : ℕ} {s : Stand} (inv : EdgesGoing constraints b nodes rows₀ rows j s) where
   -- the rows that are left, where there is a way
-  some-left : (r : Row) → j < edges_of b → smallest (edge_ways constraints b figures j) ≡ some r
-      → edges_from constraints b figures j ≡ r ∷ edges_from constraints b figures (j + 1)
+  some-left : (r : Row) → j < edges_of b → some r ≡ smallest (edge_ways constraints b s.figures j)
+      → edges_from constraints b nodes.figures j ≡ r ∷ edges_from constraints b nodes.figures (j + 1)
   unfolding range flat_map listed
   some-left r h e =
       let m : edges_of b - j ≡ suc (edges_of b - (j + 1)) = omega arith in
-      rw (m, e)
+      let f : smallest (edge_ways constraints b nodes.figures j) ≡ some r = rw (← inv.same) (sym e) in
+      rw (m, f)
 
   -- and where there is none
-  none-left : j < edges_of b → smallest (edge_ways constraints b figures j) ≡ none → edges_from constraints b figures j ≡ edges_from constraints b figures (j + 1)
+  none-left : j < edges_of b → none ≡ smallest (edge_ways constraints b s.figures j) → edges_from constraints b nodes.figures j ≡ edges_from constraints b nodes.figures (j + 1)
   unfolding range flat_map listed
   none-left h e =
       let m : edges_of b - j ≡ suc (edges_of b - (j + 1)) = omega arith in
-      rw (m, e)
+      let f : smallest (edge_ways constraints b nodes.figures j) ≡ none = rw (← inv.same) (sym e) in
+      rw (m, f)
 
   -- the row of edge j is written
-  pub edges-next : (r : Row) (next : List ℕ) → j < edges_of b → smallest (edge_ways constraints b figures j) ≡ some r → r.figure ≤ 65536
-      → count * 8 + 8 ≤ length rows → next ≡ over rows (count * 8) (row_words r)
-      → EdgesGoing constraints b figures rows₀ next count₀ sum₀ (count + 1) (sum + r.figure) (j + 1)
-  edges-next r next h e small fits w =
-      record { within = omega arith; few = omega arith; going = going-next (rw (some-left r h e) at inv.going) next small fits w }
+  pub edges-next : (r : Row) (next : List ℕ) (t : Stand) → j < edges_of b → some r ≡ smallest (edge_ways constraints b s.figures j) → s.count * 8 + 8 ≤ length rows → Pushed r s rows next t
+      → EdgesGoing constraints b nodes rows₀ next (j + 1) t
+  edges-next r next t h e fits p =
+      rw p.stand (record {
+        within = omega arith;
+        few = omega (arith, inv.few);
+        same = inv.same;
+        going = going-next (rw (some-left r h e) at inv.going) next p.small fits p.written;
+      })
 
   -- edge j has none
-  pub edges-skip : j < edges_of b → smallest (edge_ways constraints b figures j) ≡ none → EdgesGoing constraints b figures rows₀ rows count₀ sum₀ count sum (j + 1)
-  edges-skip h e = record { within = omega arith; few = omega arith; going = rw (none-left h e) at inv.going }
+  pub edges-skip : j < edges_of b → none ≡ smallest (edge_ways constraints b s.figures j) → EdgesGoing constraints b nodes rows₀ rows (j + 1) s
+  edges-skip h e = record { within = omega arith; few = omega (arith, inv.few); same = inv.same; going = rw (none-left h e) at inv.going }
 
-module _ {constraints b rows₀ rows : List ℕ} {count sum j : ℕ} {s : Stand} (inv : EdgesGoing constraints b s.figures rows₀ rows s.count s.sum count sum j) where
   -- the row of edge j is above 65,536
-  pub edges-above : (q : Row) → j < edges_of b → smallest (edge_ways constraints b s.figures j) ≡ some q → 65536 < q.figure
-      → {r : Stand} → r ≡ stand_of s.figures count sum false → EdgesDone constraints b s rows₀ rows r
-  edges-above q h e above made = rw made (record {
-    written = λ f. absurd (false≢true f);
-    few = λ f. absurd (false≢true f);
-    most = λ f. absurd (false≢true f);
-    above = λ f. going-above (rw (some-left inv q h e) at inv.going) above;
-    kept = inv.going.kept;
-  })
+  pub edges-above : (r : Row) (next : List ℕ) (x : Result Stand TooMuch) → j < edges_of b → some r ≡ smallest (edge_ways constraints b s.figures j) → 65536 < r.figure
+      → length next ≡ length rows → IsErr x → EdgesDone constraints b nodes rows₀ next x
+  edges-above r next (Ok t) h w above same is = absurd (cc)
+  edges-above r next (Err e) h w above same is =
+      record { written = tt; few = tt; most = tt; above = going-above (rw (some-left r h w) at inv.going) above; kept = same ∙ inv.going.kept }
 
   -- each edge has had its turn
-  pub edges-done : Standing constraints b s → edges_of b ≤ 56 → edges_of b ≤ j
-      → {r : Stand} → r ≡ stand_of s.figures count sum true → EdgesDone constraints b s rows₀ rows r
+  pub edges-done : Standing constraints b nodes → edges_of b ≤ 56 → edges_of b ≤ j → EdgesDone constraints b nodes rows₀ rows (Ok s)
   unfolding range flat_map
-  edges-done standing few h made =
+  edges-done standing few h =
       let m : edges_of b - j ≡ 0 = omega arith in
-      rw made (record {
-        written = λ f. going-done (rw m at inv.going);
-        few = λ f. omega (arith, inv.few, standing.few);
-        most = λ f. omega (arith, inv.going.most, inv.few, standing.few, standing.most);
-        above = λ f. absurd (false≢true (sym f));
+      record {
+        written = going-done (rw m at inv.going);
+        few = omega (arith, inv.few, inv.within, standing.few);
+        most = omega (arith, inv.going.most, inv.few, inv.within, standing.few, standing.most);
+        above = tt;
         kept = inv.going.kept;
-      })
+      }

@@ -1,8 +1,6 @@
 -- Laws of a loop that writes rows: what is left decides the whole. Assumes nothing.
 use mathlib.Core.Path.{◌≡◌, refl, sym, ap, ◌∙◌}
-use mathlib.Core.Bool.{true, false}
 use mathlib.Core.List.{List, [], ◌∷◌, flat_map}
-use mathlib.Core.Option.{Option, some, none}
 use Prim.Native.Nat.{ℕ, ◌+◌, ◌*◌, ◌≤◌, ◌<◌}
 use native.Mathlib.Omega.{arith}
 use lib.ListN.{length}
@@ -11,28 +9,8 @@ use Rattle.rules.specs.Words.{over}
 use Rattle.rules.specs.Plan.{row_words}
 use Rattle.rules.specs.declared.Row.{Row}
 use Rattle.laws.specs.Over.{over-nil, over-over, length-over}
-use Rattle.plan_ways.specs.declared.Best.{Best}
-use Rattle.plan_ways.specs.Ways.{way_in}
 use Rattle.plan_rows.specs.declared.Stand.{Stand}
 use Rattle.plan_rows.specs.Rows.{total, Written}
-
--- two runs of four words are the words of a row
-pub row-over : (s : List ℕ) (i : ℕ) (r : Row) (half whole : List ℕ) → i + 8 ≤ length s
-    → half ≡ over s i (r.kind ∷ r.number ∷ r.fetched ∷ r.constraint ∷ [])
-    → whole ≡ over half (i + 4) (r.first ∷ r.second ∷ r.third ∷ r.figure ∷ [])
-    → whole ≡ over s i (row_words r)
-unfolding row_words
-row-over s i r half whole h e f =
-    let k : i + 4 ≤ length s = omega arith in
-    f ∙ rw e (over-over s i (r.kind ∷ r.number ∷ r.fetched ∷ r.constraint ∷ []) k (r.first ∷ r.second ∷ r.third ∷ r.figure ∷ []))
-
--- what is found is the way
-pub way-found : (w : Best) (o : Option Row) → way_in w ≡ o → w.found ≡ true → o ≡ some w.row
-way-found w o e h = sym e ∙ rw h
-
--- or there is none
-pub way-missing : (w : Best) (o : Option Row) → way_in w ≡ o → w.found ≡ false → o ≡ none
-way-missing w o e h = sym e ∙ rw h
 
 -- with the rows that are left, count, sum and words come to the whole; no row so far is above 65,536
 pub record RowsGoing (rest whole : List Row) (count₀ sum₀ : ℕ) (rows₀ rows : List ℕ) (count sum : ℕ) : Type 0 where

@@ -1,44 +1,24 @@
 // The rows of a plan, as long as no figure is above 65,536.
 #![tactic(auto)]
 
-ghost use Rattle.std.specs.Prelude.{◌≡◌, [], ◌∷◌, ◌+◌, ◌≤◌, length};
+ghost use Rattle.std.specs.Prelude.{◌≡◌, ◌+◌, ◌*◌, ◌≤◌, ◌<◌, length, MatchResult};
 ghost use Rattle.rules.specs.Words.{over};
 ghost use Rattle.rules.specs.Plan.{row_words};
-ghost use Rattle.plan_ways.specs.Given.{Given};
-ghost use Rattle.plan_rows.specs.Rows.{stand_of, Standing, NodesDone, EdgesDone};
+ghost use Rattle.plan_rows.specs.Rows.{Standing, Pushed, NodesDone, EdgesDone};
 
+use plan_ways::Asked;
 use rules::Row;
 
-// How far the rows have come: the figures of the nodes, rows written, the sum of their figures; `fits` says that none is above 65,536.
+// A figure is above 65,536.
+#[derive(Clone, Copy)]
+pub struct TooMuch;
+
+// How far the rows have come: the figures of the nodes, rows written, and the sum of their figures.
 #[derive(Clone, Copy)]
 pub struct Stand {
     pub figures: [u32; 8],
     pub count: usize,
     pub sum: u64,
-    pub fits: bool,
-}
-
-// Where the rows stand.
-fn stand_of(figures: [u32; 8], count: usize, sum: u64, fits: bool) -> Stand
-    ensures { result ≡ stand_of figures count sum fits }
-{
-    Stand {
-        figures: figures,
-        count: count,
-        sum: sum,
-        fits: fits,
-    }
-}
-
-// Writes four words.
-fn put_four(rows: &mut [u32], at: usize, x: u32, y: u32, z: u32, w: u32)
-    requires { at + 4 ≤ length rows.old }
-    ensures { rows.new ≡ over rows.old at (x ∷ y ∷ z ∷ w ∷ []) }
-{
-    rows[at] = x;
-    rows[at + 1] = y;
-    rows[at + 2] = z;
-    rows[at + 3] = w;
 }
 
 // Writes the 8 words of a row.
@@ -46,66 +26,64 @@ fn put_row(rows: &mut [u32], at: usize, row: Row)
     requires { (at + 8 ≤ length rows.old) × (row.figure ≤ 65536) }
     ensures { rows.new ≡ over rows.old at (row_words row) }
 {
-    put_four(rows, at, row.kind, row.number, row.fetched, row.constraint);
-    let figure = row.figure as u32;
-    put_four(rows, at + 4, row.first, row.second, row.third, figure);
+    rows[at..at + 8].copy_from_slice(&[
+        row.kind,
+        row.number,
+        row.fetched,
+        row.constraint,
+        row.first,
+        row.second,
+        row.third,
+        row.figure as u32,
+    ]);
+}
+
+impl Stand {
+    // Writes a row after the others, unless its figure is above 65,536.
+    fn push(&mut self, rows: &mut [u32], row: Row) -> Result<(), TooMuch>
+        requires { (self.old.count * 8 + 8 ≤ length rows.old) × (self.old.sum ≤ 64 * 65536) }
+        ensures { MatchResult result (λ _. Pushed row self.old rows.old rows.new self.new) (λ _. 65536 < row.figure) }
+    {
+        if rules::MOST_READ < row.figure {
+            return Err(TooMuch);
+        }
+        put_row(rows, self.count * 8, row);
+        self.count += 1;
+        self.sum += row.figure;
+        Ok(())
+    }
 }
 
 // Writes the node rows.
-pub fn node_rows(constraints: &[u8], b: &[u8], t: [[bool; 8]; 8], rows: &mut [u32]) -> Stand
-    requires { (Given constraints.now b.now t) × (64 ≤ length rows.old) }
-    ensures { NodesDone constraints.now b.now rows.old rows.new result }
+pub fn node_rows(asked: Asked, rows: &mut [u32]) -> Result<Stand, TooMuch>
+    requires { 64 ≤ length rows.old }
+    ensures { NodesDone asked.entry.constraints.now asked.entry.b.now rows.old rows.new result }
 {
-    let p = pattern::size_of(b);
-    let mut figures = [0u32; 8];
-    let mut count: usize = 0;
-    let mut sum: u64 = 0;
-    while count < p {
-        let best = plan_ways::best_way(constraints, b, t, &figures);
-        let row = best.row;
-        if !best.found {
-            return stand_of(figures, count, sum, true);
-        }
-        if rules::MOST_READ < row.figure {
-            return stand_of(figures, count, sum, false);
-        }
-        put_row(rows, count * 8, row);
-        let u = row.number as usize;
-        figures[u] = row.figure as u32;
-        sum += row.figure;
-        count += 1;
+    let mut stand = Stand {
+        figures: [0u32; 8],
+        count: 0,
+        sum: 0,
+    };
+    for _ in 0..pattern::size_of(asked.b) {
+        let Some(row) = asked.best_way(&stand.figures) else {
+            return Ok(stand);
+        };
+        stand.push(rows, row)?;
+        stand.figures[row.number as usize] = row.figure as u32;
     }
-    stand_of(figures, count, sum, true)
+    Ok(stand)
 }
 
 // Writes the edge rows after the node rows.
-pub fn edge_rows(
-    constraints: &[u8],
-    b: &[u8],
-    t: [[bool; 8]; 8],
-    s: Stand,
-    rows: &mut [u32],
-) -> Stand
-    requires { (Given constraints.now b.now t) × ((Standing constraints.now b.now s) × (512 ≤ length rows.old)) }
-    ensures { EdgesDone constraints.now b.now s rows.old rows.new result }
+pub fn edge_rows(asked: Asked, nodes: Stand, rows: &mut [u32]) -> Result<Stand, TooMuch>
+    requires { (Standing asked.constraints.now asked.b.now nodes) × (512 ≤ length rows.old) }
+    ensures { EdgesDone asked.entry.constraints.now asked.entry.b.now nodes rows.old rows.new result }
 {
-    let q = pattern::edges_of(b);
-    let figures = s.figures;
-    let mut count = s.count;
-    let mut sum = s.sum;
-    let mut j: usize = 0;
-    while j < q {
-        let best = plan_ways::best_for_edge(constraints, b, t, &figures, j);
-        let row = best.row;
-        j += 1;
-        if best.found {
-            if rules::MOST_READ < row.figure {
-                return stand_of(figures, count, sum, false);
-            }
-            put_row(rows, count * 8, row);
-            sum += row.figure;
-            count += 1;
+    let mut stand = nodes;
+    for j in 0..pattern::edges_of(asked.b) {
+        if let Some(row) = asked.best_for_edge(&stand.figures, j) {
+            stand.push(rows, row)?;
         }
     }
-    stand_of(figures, count, sum, true)
+    Ok(stand)
 }

@@ -1,12 +1,12 @@
 -- What a node's ways by a constraint, and an edge's, come to: the best slots. Assumes nothing.
 use mathlib.Core.Path.{◌≡◌, refl, sym, ap, ◌∙◌}
-use mathlib.Core.Bool.{Bool, true, false, cond, not, ◌&&◌, ◌||◌, or-false, or_assoc, and-true, and-false}
+use mathlib.Core.Bool.{Bool, true, false, true≢false, cond, not, ◌&&◌, ◌||◌, or-false, or_assoc, and-true, and-false}
 use mathlib.Core.List.{List, [], ◌∷◌, map, map-map}
 use mathlib.Core.Option.{Option, some, none}
 use Prim.Native.Nat.{ℕ, suc, ◌≤◌, ◌<◌}
 use native.Mathlib.Omega.{arith}
 use lib.Dec.{eqb, ltb}
-use borrow.Author.Tests.{eqb-true, eq-eqb, ne_eqb, ltb-true, not-true, not-false}
+use borrow.Author.Tests.{eqb-true, eq-eqb, ne_eqb, ltb-true, not-true}
 use Rattle.rules.specs.Lists.{range, all, any, keep, has, choices}
 use Rattle.laws.specs.Strict.{From}
 use Rattle.rules.specs.Store.{labels_of, label_after, constraint_alone}
@@ -21,8 +21,9 @@ use Rattle.laws.specs.Keep.{has-keep, keep-from}
 use Rattle.laws.specs.Range.{range-has, range-from}
 use Rattle.laws.specs.All.{all-keep, all-map, all-member}
 use Rattle.laws.specs.Constraints.{most-positive, most-small}
-use Rattle.plan_ways.specs.Ways.{taken, slot_of, way_by, suited, Small}
-use Rattle.plan_ways.specs.declared.Slot.{Slot}
+use Rattle.std.specs.Prelude.{Some, None, IfSome, is_some}
+use Rattle.std.specs.Prelude as code
+use Rattle.plan_ways.specs.Ways.{way_in, taken, slot_of, way_by, suited, Small, narrowed, asked, one_suited, Inside, slots}
 use Rattle.plan_ways.proofs.Slots.{made, slots-way, second-zero, third-zero, orders}
 
 -- ---- the covered neighbours with a label
@@ -54,15 +55,19 @@ slots-smallest f own h good d alone =
     slots-way f own d.most h good d alone
     ∙ sym (each-smallest f (map h (labels_of d)) (all-map (all (λ w. not (eqb (f w) 0))) h (labels_of d) good) d.most (most-positive d alone) (made f own d.most) (λ c. refl))
 
--- what a function takes the ways of a node by a constraint for: none where the label differs, else the best slots
-module _ (b figures : List ℕ) (u label : ℕ) (d : Constraint) (told : label ≡ pattern_label b u) (mk : List ℕ → Row) where
-  pub label-differs : (label ≡ d.label → ⊥) → none ≡ smallest (map mk (ways_by b figures u d))
-  unfolding ways_by smallest
-  label-differs n = rw (ne_eqb (pattern_label b u) d.label (λ e. n (told ∙ e)))
+-- where the label differs there is no way
+pub label-differs : (b figures : List ℕ) (u label : ℕ) (d : Constraint) (mk : List ℕ → Row) (other : code.Option ℕ) → label ≡ pattern_label b u → (label ≡ d.label → ⊥)
+    → none ≡ smallest (map mk (asked other (ways_by b figures u d)))
+unfolding ways_by smallest keep
+label-differs b figures u label d mk other told n = rw (ne_eqb (pattern_label b u) d.label (λ e. n (told ∙ e))) (go other)
+  where
+    go : (other : code.Option ℕ) → none ≡ smallest (map mk (asked other []))
+    go None = refl
+    go (Some o) = refl
 
-  pub label-agrees : label ≡ d.label → ways_by b figures u d ≡ choices (map (covered_with b figures u) (labels_of d))
-  unfolding ways_by
-  label-agrees e = rw (eq-eqb (pattern_label b u) d.label (sym told ∙ e))
+label-agrees : (b figures : List ℕ) (u label : ℕ) (d : Constraint) → label ≡ pattern_label b u → label ≡ d.label → ways_by b figures u d ≡ choices (map (covered_with b figures u) (labels_of d))
+unfolding ways_by
+label-agrees b figures u label d told e = rw (eq-eqb (pattern_label b u) d.label (sym told ∙ e))
 
 after-less : (a b : ℕ) → label_after a b ≡ true → eqb b 0 ≡ false → a < b
 unfolding label_after
@@ -162,92 +167,67 @@ module _ (b figures : List ℕ) (u o : ℕ) (here : o < size_of b) (d : Constrai
       keep-has o (map (covered_with b figures u) (labels_of d)) (once-there b figures u o here 0 (labels_of d) (labels-from d alone))
       ∙ ap (λ ls. cond (any (has o) (map (covered_with b figures u) (labels_of d))) (choices ls) []) (map-map (narrow o) (covered_with b figures u) (labels_of d))
 
-  module _ (label : ℕ) (told : label ≡ pattern_label b u) (agrees : label ≡ d.label) (r : Bool)
-      (asked : r ≡ (suited b figures u d.first o || suited b figures u d.second o || suited b figures u d.third o)) (nz : not (eqb (pattern_label b o) 0) ≡ true) where
-    pub end-missing : (mk : List ℕ → Row) → not r ≡ true → none ≡ smallest (map mk (keep (has o) (ways_by b figures u d)))
-    unfolding smallest
-    end-missing mk h =
-        let kept : keep (has o) (choices (map (covered_with b figures u) (labels_of d))) ≡ [] = ends-kept ∙ rw (any-label b figures u o here d nz ∙ sym asked ∙ not-true r h) in
-        sym (ap (λ ws. smallest (map mk (keep (has o) ws))) (label-agrees b figures u label d told mk agrees) ∙ ap (λ ws. smallest (map mk ws)) kept)
+  -- the other end is among none of the lists
+  pub end-missing : not (eqb (pattern_label b o) 0) ≡ true → one_suited b figures u d (Some o) ≡ false → keep (has o) (choices (map (covered_with b figures u) (labels_of d))) ≡ []
+  end-missing nz h = ends-kept ∙ rw (any-label b figures u o here d nz ∙ h)
 
-    pub end-made : (own : Row) → not r ≡ false
-        → way_by own d.most (slot_of d.first (least (figure_of figures) (narrow o (covered_with b figures u d.first))))
-        (slot_of d.second (least (figure_of figures) (narrow o (covered_with b figures u d.second))))
-        (slot_of d.third (least (figure_of figures) (narrow o (covered_with b figures u d.third))))
-        ≡ smallest (map (made (figure_of figures) own d.most) (keep (has o) (ways_by b figures u d)))
-    end-made own h =
-        let kept : keep (has o) (choices (map (covered_with b figures u) (labels_of d))) ≡ choices (map (λ l. narrow o (covered_with b figures u l)) (labels_of d)) =
-        ends-kept ∙ rw (any-label b figures u o here d nz ∙ sym asked ∙ not-false r h) in
-        slots-smallest (figure_of figures) own (λ l. narrow o (covered_with b figures u l)) (λ l. narrow-positive (figure_of figures) o (covered_with b figures u l) (all-covered b figures u l)) d alone
-        ∙ sym (ap (λ ws. smallest (map (made (figure_of figures) own d.most) (keep (has o) ws))) (label-agrees b figures u label d told (made (figure_of figures) own d.most) agrees)
-        ∙ ap (λ ws. smallest (map (made (figure_of figures) own d.most) ws)) kept)
+  pub end-kept : not (eqb (pattern_label b o) 0) ≡ true → one_suited b figures u d (Some o) ≡ true
+      → keep (has o) (choices (map (covered_with b figures u) (labels_of d))) ≡ choices (map (λ l. narrow o (covered_with b figures u l)) (labels_of d))
+  end-kept nz h = ends-kept ∙ rw (any-label b figures u o here d nz ∙ h)
 
--- where the label differs there is no way
-pub end-differs : (b figures : List ℕ) (u o label : ℕ) (d : Constraint) (mk : List ℕ → Row) → label ≡ pattern_label b u → (label ≡ d.label → ⊥)
-    → none ≡ smallest (map mk (keep (has o) (ways_by b figures u d)))
-unfolding ways_by smallest keep
-end-differs b figures u o label d mk told n = rw (ne_eqb (pattern_label b u) d.label (λ e. n (told ∙ e)))
+-- ---- the ways of a right constraint whose label u has
+module _ (b figures : List ℕ) (u label : ℕ) (d : Constraint) (alone : constraint_alone d ≡ true) (told : label ≡ pattern_label b u) (agrees : label ≡ d.label)
+    (named : (o : ℕ) → o < size_of b → not (eqb (pattern_label b o) 0) ≡ true) where
+  pub ways-missing : (mk : List ℕ → Row) (other : code.Option ℕ) → Inside b other → one_suited b figures u d other ≡ false → none ≡ smallest (map mk (asked other (ways_by b figures u d)))
+  unfolding smallest
+  ways-missing mk None i h = absurd (true≢false h)
+  ways-missing mk (Some o) i h = rw (label-agrees b figures u label d told agrees, end-missing b figures u o i d alone (named o i) h)
 
--- the ways of a node, where it has the constraint's label
-pub node-made : (b figures : List ℕ) (u label : ℕ) (d : Constraint) → constraint_alone d ≡ true → label ≡ pattern_label b u → label ≡ d.label → (own : Row)
-    → way_by own d.most (slot_of d.first (least (figure_of figures) (covered_with b figures u d.first)))
-    (slot_of d.second (least (figure_of figures) (covered_with b figures u d.second)))
-    (slot_of d.third (least (figure_of figures) (covered_with b figures u d.third)))
-    ≡ smallest (map (made (figure_of figures) own d.most) (ways_by b figures u d))
-node-made b figures u label d alone told agrees own =
-    slots-smallest (figure_of figures) own (covered_with b figures u) (all-covered b figures u) d alone
-    ∙ sym (ap (λ ws. smallest (map (made (figure_of figures) own d.most) ws)) (label-agrees b figures u label d told (made (figure_of figures) own d.most) agrees))
+  pub ways-made : (own : Row) (other : code.Option ℕ) → Inside b other → one_suited b figures u d other ≡ true
+      → slots b figures u d own other ≡ smallest (map (made (figure_of figures) own d.most) (asked other (ways_by b figures u d)))
+  unfolding slots
+  ways-made own None i h =
+      rw (label-agrees b figures u label d told agrees) (slots-smallest (figure_of figures) own (covered_with b figures u) (all-covered b figures u) d alone)
+  ways-made own (Some o) i h =
+      rw (label-agrees b figures u label d told agrees, end-kept b figures u o i d alone (named o i) h)
+      (slots-smallest (figure_of figures) own (λ l. narrow o (covered_with b figures u l)) (λ l. narrow-positive (figure_of figures) o (covered_with b figures u l) (all-covered b figures u l)) d alone)
 
--- ---- the figure of a slot is small
-taken-small : (f : ℕ → ℕ) (o : Option Row) → ((w : ℕ) → f w ≤ 65536) → GoodIf f o → (taken o).figure ≤ 65536
+-- ---- a slot
+pub narrowed-positive : (b figures : List ℕ) (u l : ℕ) (other : code.Option ℕ) → all (λ w. not (eqb (figure_of figures w) 0)) (narrowed other (covered_with b figures u l)) ≡ true
+narrowed-positive b figures u l None = all-covered b figures u l
+narrowed-positive b figures u l (Some o) = narrow-positive (figure_of figures) o (covered_with b figures u l) (all-covered b figures u l)
+
+-- its figure is small
+taken-small : (f : ℕ → ℕ) (o : Option Row) → ((w : ℕ) → f w ≤ 65536) → GoodIf f o → IfSome (taken o) (λ s. s.figure ≤ 65536)
 unfolding taken
-taken-small f none small g = omega arith
+taken-small f none small g = tt
 taken-small f (some r) small g = rw g.0 (small r.number)
 
-slot-small : (f : ℕ → ℕ) (o : Option Row) (label : ℕ) → ((w : ℕ) → f w ≤ 65536) → GoodIf f o → (slot_of label o).figure ≤ 65536
+pub slot-small : (b figures : List ℕ) (u label : ℕ) (other : code.Option ℕ) → Small figures → IfSome (slot_of label (least (figure_of figures) (narrowed other (covered_with b figures u label)))) (λ s. s.figure ≤ 65536)
 unfolding slot_of
-slot-small f o label small g = go (eqb label 0)
+slot-small b figures u label other small = go (eqb label 0)
   where
-    go : (t : Bool) → (cond t (record { found = true; node = 255; figure = 1 }) (taken o)).figure ≤ 65536
+    best : Option Row
+    best = least (figure_of figures) (narrowed other (covered_with b figures u label))
+
+    go : (t : Bool) → IfSome (cond t (Some (record { node = 255; figure = 1 })) (taken best)) (λ s. s.figure ≤ 65536)
     go true = omega arith
-    go false = taken-small f o small g
+    go false = taken-small (figure_of figures) best small.most (least-good (figure_of figures) (narrowed other (covered_with b figures u label)) (narrowed-positive b figures u label other))
 
--- what a function that takes a slot tells
-pub slot-told : (f : ℕ → ℕ) (xs : List ℕ) (label : ℕ) (o : Option Row) (r : Slot) → r ≡ slot_of label o → o ≡ least f xs → ((w : ℕ) → f w ≤ 65536)
-    → all (λ w. not (eqb (f w) 0)) xs ≡ true → (r ≡ slot_of label (least f xs)) × (r.figure ≤ 65536)
-slot-told f xs label o r q e small pos =
-    let s : r ≡ slot_of label (least f xs) = q ∙ ap (slot_of label) e in
-    (s, rw s (slot-small f (least f xs) label small (least-good f xs pos)))
+-- ---- the best node where o must be chosen if it suits
+module _ (b figures : List ℕ) (u label o : ℕ) (here : o < size_of b) (r : code.Option Row) (told : way_in r ≡ smallest (cond (suited b figures u label o) (node_only (figure_of figures) o ∷ []) [])) where
+  suits-told : (r : code.Option Row) → (t : Bool) → way_in r ≡ smallest (cond t (node_only (figure_of figures) o ∷ []) []) → is_some r ≡ t
+  unfolding smallest
+  suits-told None true e = absurd (cc)
+  suits-told None false e = refl
+  suits-told (Some x) true e = refl
+  suits-told (Some x) false e = absurd (cc)
 
-pub slot-for : (b figures : List ℕ) (u label : ℕ) (o : Option Row) (r : Slot) → Small figures → r ≡ slot_of label o → o ≡ least (figure_of figures) (covered_with b figures u label)
-    → (r ≡ slot_of label (least (figure_of figures) (covered_with b figures u label))) × (r.figure ≤ 65536)
-slot-for b figures u label o r small q e = slot-told (figure_of figures) (covered_with b figures u label) label o r q e small.most (all-covered b figures u label)
+  pub fixed-here : is_some r ≡ true → way_in r ≡ least (figure_of figures) (narrowed (Some o) (covered_with b figures u label))
+  fixed-here h = let s = suits-told r (suited b figures u label o) told in told ∙ rw (has-covered b figures u label o here, sym s ∙ h)
 
-pub slot-with : (b figures : List ℕ) (u label p : ℕ) (o : Option Row) (r : Slot) → Small figures → r ≡ slot_of label o
-    → o ≡ least (figure_of figures) (narrow p (covered_with b figures u label))
-    → (r ≡ slot_of label (least (figure_of figures) (narrow p (covered_with b figures u label)))) × (r.figure ≤ 65536)
-slot-with b figures u label p o r small q e =
-    slot-told (figure_of figures) (narrow p (covered_with b figures u label)) label o r q e small.most
-    (narrow-positive (figure_of figures) p (covered_with b figures u label) (all-covered b figures u label))
-
--- label 0 asks for no node, whatever the best one is
-pub slot-free : (label : ℕ) (o p : Option Row) (r : Slot) → label ≡ 0 → r ≡ slot_of label o → (r ≡ slot_of label p) × (r.figure ≤ 65536)
-unfolding slot_of
-slot-free label o p r z e = let s : r ≡ slot_of label p = e ∙ rw (eq-eqb label 0 z) in (s, rw (e, eq-eqb label 0 z) (omega arith))
-
--- the best node where o must be chosen if it suits
-module _ (b figures : List ℕ) (u label o : ℕ) (here : o < size_of b) (t : Bool) (q : t ≡ suited b figures u label o) where
-  pub with-fixed : (x : Option Row) → t ≡ true → x ≡ smallest (cond (suited b figures u label o) (node_only (figure_of figures) o ∷ []) [])
-      → x ≡ least (figure_of figures) (narrow o (covered_with b figures u label))
-  with-fixed x h e = e ∙ rw (has-covered b figures u label o here, sym q ∙ h)
-
-  pub with-free : (x : Option Row) → t ≡ false → x ≡ least (figure_of figures) (covered_with b figures u label)
-      → x ≡ least (figure_of figures) (narrow o (covered_with b figures u label))
-  with-free x h e = e ∙ rw (has-covered b figures u label o here, sym q ∙ h)
-
--- the same slots make the same way
-pub slots-told : (x : Option Row) (own : Row) (most : ℕ) (a b c a' b' c' : Slot) → x ≡ way_by own most a b c → a ≡ a' → b ≡ b' → c ≡ c' → x ≡ way_by own most a' b' c'
-slots-told x own most a b c a' b' c' q e f g = q ∙ rw (e, f, g)
+  pub fixed-missing : is_some r ≡ false → narrowed (Some o) (covered_with b figures u label) ≡ covered_with b figures u label
+  fixed-missing h = let s = suits-told r (suited b figures u label o) told in rw (has-covered b figures u label o here, sym s ∙ h)
 
 pub most-told : (k d : Constraint) → k ≡ d → constraint_alone d ≡ true → k.most ≤ 65535
 most-told k d e alone = rw e (most-small d alone)

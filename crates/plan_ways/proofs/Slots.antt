@@ -14,11 +14,13 @@ use Rattle.rules.specs.declared.Constraint.{Constraint}
 use Rattle.laws.specs.Cases.{first-holds, second-holds}
 use Rattle.laws.specs.Least.{least, via, least_each, GoodIf, least-good}
 use Rattle.plan_ways.specs.Ways.{taken, slot_of, way_by}
-use Rattle.plan_ways.specs.declared.Slot.{Slot}
+use Rattle.std.specs.Prelude.{Some}
+use Rattle.std.specs.Prelude as code
+use Rattle.plan_ways.specs.declared.Chosen.{Chosen}
 
 -- a slot that no label asks for
-abbrev free : Slot
-free = record { found = true; node = 255; figure = 1 }
+abbrev free : code.Option Chosen
+free = Some (record { node = 255; figure = 1 })
 
 module _ (f : ℕ → ℕ) (own : Row) (most : ℕ) where
   -- the row that chosen nodes make
@@ -30,18 +32,18 @@ module _ (f : ℕ → ℕ) (own : Row) (most : ℕ) where
   one o rest = elim o [ none ↦ none | some r ↦ via (λ c. r.number ∷ c) rest ]
 
   none-asked : way_by own most free free free ≡ via made (some [])
-  unfolding way_by row_of product
+  unfolding row_of product
   none-asked = ap (λ n. some (record { kind = own.kind; number = own.number; fetched = own.fetched; constraint = own.constraint; first = 255; second = 255; third = 255; figure = n })) (simp mul-one)
 
   one-asked : (o : Option Row) → GoodIf f o → way_by own most (taken o) free free ≡ via made (one o (some []))
-  unfolding way_by row_of product taken
+  unfolding row_of product taken
   one-asked none g = refl
   one-asked (some r) g =
       ap (λ n. some (record { kind = own.kind; number = own.number; fetched = own.fetched; constraint = own.constraint; first = r.number; second = 255; third = 255; figure = n }))
       (rw g.0 (simp mul-one))
 
   two-asked : (o p : Option Row) → GoodIf f o → GoodIf f p → way_by own most (taken o) (taken p) free ≡ via made (one o (one p (some [])))
-  unfolding way_by row_of product taken
+  unfolding row_of product taken
   two-asked none p g h = refl
   two-asked (some r) none g h = refl
   two-asked (some r) (some q) g h =
@@ -50,7 +52,7 @@ module _ (f : ℕ → ℕ) (own : Row) (most : ℕ) where
 
   three-asked : (o p s : Option Row) → GoodIf f o → GoodIf f p → GoodIf f s
       → way_by own most (taken o) (taken p) (taken s) ≡ via made (one o (one p (one s (some []))))
-  unfolding way_by row_of product taken
+  unfolding row_of product taken
   three-asked none p s g h k = refl
   three-asked (some r) none s g h k = refl
   three-asked (some r) (some q) none g h k = refl

@@ -1,6 +1,8 @@
 -- The best way, the slots of a constraint's labels, and the row that they make.
-use Rattle.std.specs.Prelude.{ℕ, ◌+◌, ◌*◌, ◌≤◌, ◌<◌, ◌≡◌, Bool, true, false, cond, not, ◌&&◌, List, map, eqb, length, get_or}
+use Rattle.std.specs.Prelude.{ℕ, ◌+◌, ◌*◌, ◌≤◌, ◌<◌, ◌≡◌, Bool, true, cond, not, ◌&&◌, ◌||◌, List, map, eqb, length, get_or, Some, None, IfSome}
+use Rattle.std.specs.Prelude as code
 use Rattle.std.proofs.Math.Option.{Option, some, none}
+use Rattle.rules.specs.Words.{Ids}
 use Rattle.rules.specs.Pattern.{size_of, edges_of, pattern_label, pattern_from, pattern_to, joined}
 use Rattle.rules.specs.Lists.{keep, has}
 use Rattle.rules.specs.Store.{constraints_in, constraint_at, constraint_alone}
@@ -10,23 +12,23 @@ use Rattle.laws.specs.Table.{Neighbours}
 use Rattle.laws.specs.Least.{least}
 use Rattle.laws.specs.Choices.{narrow}
 use Rattle.rules.specs.declared.Row.{Row}
-use Rattle.plan_ways.specs.declared.Best.{Best}
-use Rattle.plan_ways.specs.declared.Slot.{Slot}
+use Rattle.plan_ways.specs.declared.Chosen.{Chosen}
 
 -- the way that was found, if one was
-abbrev pub way_in : Best → Option Row
-way_in w = cond w.found (some w.row) none
+abbrev pub way_in : code.Option Row → Option Row
+way_in None = none
+way_in (Some r) = some r
 
 -- the slot of a label, with the best node for it; label 0 asks for none
-unfoldable pub taken : Option Row → Slot
-taken none = record { found = false; node = 0; figure = 0 }
-taken (some r) = record { found = true; node = r.number; figure = r.figure }
+unfoldable pub taken : Option Row → code.Option Chosen
+taken none = None
+taken (some r) = Some (record { node = r.number; figure = r.figure })
 
-unfoldable pub slot_of : ℕ → Option Row → Slot
-slot_of label o = cond (eqb label 0) (record { found = true; node = 255; figure = 1 }) (taken o)
+unfoldable pub slot_of : ℕ → Option Row → code.Option Chosen
+slot_of label o = cond (eqb label 0) (Some (record { node = 255; figure = 1 })) (taken o)
 
 -- the row with these slots
-abbrev pub row_by : Row → ℕ → Slot → Slot → Slot → Row
+abbrev pub row_by : Row → ℕ → Chosen → Chosen → Chosen → Row
 row_by own most a b c = record {
   kind = own.kind;
   number = own.number;
@@ -39,8 +41,11 @@ row_by own most a b c = record {
 }
 
 -- the way with these slots, if each is found
-unfoldable pub way_by : Row → ℕ → Slot → Slot → Slot → Option Row
-way_by own most a b c = cond (a.found && b.found && c.found) (some (row_by own most a b c)) none
+abbrev pub way_by : Row → ℕ → code.Option Chosen → code.Option Chosen → code.Option Chosen → Option Row
+way_by own most None b c = none
+way_by own most (Some x) None c = none
+way_by own most (Some x) (Some y) None = none
+way_by own most (Some x) (Some y) (Some z) = some (row_by own most x y z)
 
 -- what is known of a pattern and its table once the pattern is right
 pub record Known (b : List ℕ) (t : List (List Bool)) : Type 0 where
@@ -67,25 +72,32 @@ pub record WaysReady (constraints b : List ℕ) (t : List (List Bool)) (figures 
   pub count : constraints_in constraints ≤ 65535
   pub alone : (c : ℕ) → c < constraints_in constraints → constraint_alone (constraint_at constraints c) ≡ true
 
--- the ways to fetch node u by constraint c
-abbrev pub node_by : List ℕ → List ℕ → List ℕ → ℕ → ℕ → List Row
-node_by constraints b figures u c =
-    map (λ chosen. row_of 0 u u c chosen (figure_by figures (constraint_at constraints c) chosen)) (ways_by b figures u (constraint_at constraints c))
+-- the nodes for a label, and the ways by a constraint, where another node must be chosen, if one is given
+abbrev pub narrowed : code.Option ℕ → Ids → Ids
+narrowed None xs = xs
+narrowed (Some o) xs = narrow o xs
 
--- the ways to cover edge j by constraint c, with fetched end f and o the other end
-abbrev pub end_by : List ℕ → List ℕ → List ℕ → ℕ → ℕ → ℕ → ℕ → List Row
-end_by constraints b figures j c f o =
-    map (λ chosen. row_of 1 j f c chosen (figure_by figures (constraint_at constraints c) chosen)) (keep (has o) (ways_by b figures f (constraint_at constraints c)))
+abbrev pub asked : code.Option ℕ → List Ids → List Ids
+asked None ways = ways
+asked (Some o) ways = keep (has o) ways
 
--- the way that the best slots of a constraint's labels make, for a node, and for an edge whose other end is o
-unfoldable pub node_slots : List ℕ → List ℕ → ℕ → Constraint → Row → Option Row
-node_slots b figures u k own =
-    way_by own k.most (slot_of k.first (least (figure_of figures) (covered_with b figures u k.first)))
-    (slot_of k.second (least (figure_of figures) (covered_with b figures u k.second)))
-    (slot_of k.third (least (figure_of figures) (covered_with b figures u k.third)))
+-- the other node, if one is given, suits one of the labels of S
+abbrev pub one_suited : List ℕ → List ℕ → ℕ → Constraint → code.Option ℕ → Bool
+one_suited b figures u k None = true
+one_suited b figures u k (Some o) = suited b figures u k.first o || suited b figures u k.second o || suited b figures u k.third o
 
-unfoldable pub end_slots : List ℕ → List ℕ → ℕ → Constraint → Row → ℕ → Option Row
-end_slots b figures u k own o =
-    way_by own k.most (slot_of k.first (least (figure_of figures) (narrow o (covered_with b figures u k.first))))
-    (slot_of k.second (least (figure_of figures) (narrow o (covered_with b figures u k.second))))
-    (slot_of k.third (least (figure_of figures) (narrow o (covered_with b figures u k.third))))
+-- another node, if one is given, is a node of the pattern
+abbrev pub Inside : List ℕ → code.Option ℕ → Type 0
+Inside b other = IfSome other (λ o. o < size_of b)
+
+-- the ways to fetch u by constraint c, as rows of a kind and a number: 0 and u for a node, 1 and j for edge j, whose other end is given
+abbrev pub rows_by : List ℕ → List ℕ → List ℕ → ℕ → ℕ → ℕ → ℕ → code.Option ℕ → List Row
+rows_by constraints b figures kind number u c other =
+    map (λ chosen. row_of kind number u c chosen (figure_by figures (constraint_at constraints c) chosen)) (asked other (ways_by b figures u (constraint_at constraints c)))
+
+-- the way that the best slots of a constraint's labels make
+unfoldable pub slots : List ℕ → List ℕ → ℕ → Constraint → Row → code.Option ℕ → Option Row
+slots b figures u k own other =
+    way_by own k.most (slot_of k.first (least (figure_of figures) (narrowed other (covered_with b figures u k.first))))
+    (slot_of k.second (least (figure_of figures) (narrowed other (covered_with b figures u k.second))))
+    (slot_of k.third (least (figure_of figures) (narrowed other (covered_with b figures u k.third))))

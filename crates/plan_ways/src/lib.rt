@@ -1,440 +1,259 @@
 // The ways in which a pattern node may be fetched or a pattern edge covered, and the best of them.
 #![tactic(auto)]
 
-ghost use Rattle.std.specs.Prelude.{◌≡◌, true, false, cond, not, ◌||◌, ◌*◌, ◌≤◌, ◌<◌};
+ghost use Rattle.std.specs.Prelude.{◌≡◌, cond, not, ◌≤◌, ◌<◌, IfSome};
 ghost use mathlib.Core.List.{[], ◌∷◌, flat_map};
-ghost use Rattle.std.proofs.Math.Option.{none};
 ghost use Rattle.rules.specs.Store.{constraints_in};
 ghost use Rattle.rules.specs.Pattern.{size_of, edges_of};
-ghost use Rattle.rules.specs.Plan.{figure_of, covered, covered_with, smallest, node_ways, all_ways, ends_of, end_ways, edge_ways};
+ghost use Rattle.rules.specs.Plan.{row_of, figure_of, covered, covered_with, smallest, node_ways, all_ways, ends_of, end_ways, edge_ways};
 ghost use Rattle.laws.specs.Smallest.{better};
 ghost use Rattle.laws.specs.Least.{node_only, least};
-ghost use Rattle.laws.specs.Choices.{narrow};
-ghost use Rattle.plan_ways.specs.Ways.{way_in, slot_of, way_by, Known, Small, WaysReady, suited, node_by, end_by, node_slots, end_slots};
+ghost use Rattle.plan_ways.specs.Ways.{way_in, slot_of, row_by, WaysReady, suited, narrowed, one_suited, Inside, Small, rows_by, slots};
+ghost use Rattle.plan_ways.specs.Given.{Given};
 
 use rules::{Constraint, Row};
 
-// The best way so far, if there is one.
+// The node chosen for a label, and its figure; where no label asks for one, 255 and 1. Stays a number: a row's published words say 255 for no node.
 #[derive(Clone, Copy)]
-pub struct Best {
-    pub found: bool,
-    pub row: Row,
-}
-
-// The node chosen for a label, and its figure; where no label asks for one, 255 and 1.
-#[derive(Clone, Copy)]
-pub struct Slot {
-    pub found: bool,
+pub struct Chosen {
     pub node: u32,
     pub figure: u64,
 }
 
-// No way.
-pub fn no_way() -> Best
-    ensures { way_in result ≡ none }
-{
-    let row = Row {
-        kind: 0,
-        number: 0,
-        fetched: 0,
-        constraint: 0,
-        first: 0,
-        second: 0,
-        third: 0,
-        figure: 0,
-    };
-    Best {
-        found: false,
-        row: row,
-    }
+// What a plan is asked for: right constraints, a right pattern, and its table of neighbours.
+#[derive(Clone, Copy)]
+pub struct Asked<'a> {
+    pub constraints: &'a [u8],
+    pub b: &'a [u8],
+    pub t: &'a [[bool; 8]; 8],
+    pub ghost given: { Given constraints.now b.now t.now },
+}
+
+// What the search for ways is lent: what is asked, and the figures so far.
+#[derive(Clone, Copy)]
+struct Lent<'a> {
+    constraints: &'a [u8],
+    b: &'a [u8],
+    t: &'a [[bool; 8]; 8],
+    figures: &'a [u32; 8],
+    ghost ready: { WaysReady constraints.now b.now t.now figures.now },
 }
 
 // The better of two: the second only if its figure is smaller.
-fn better(a: Best, b: Best) -> Best
+fn better(a: Option<Row>, b: Option<Row>) -> Option<Row>
     ensures { way_in result ≡ better (way_in a) (way_in b) }
 {
-    if !b.found {
-        return a;
+    match (a, b) {
+        (None, _) => b,
+        (_, None) => a,
+        (Some(first), Some(second)) => { if second.figure < first.figure { b } else { a } }
     }
-    if !a.found {
-        return b;
-    }
-    let x = a.row.figure;
-    let y = b.row.figure;
-    if y < x {
-        return b;
-    }
-    a
 }
 
-// A figure as a u64.
-fn wide(x: u32) -> u64
-    ensures { result ≡ x }
+// A row that has no chosen node. Its kind stays a number: it is a published word, 0 for a node and 1 for an edge.
+fn row_of(kind: u32, number: u32, fetched: u32, constraint: u32, figure: u64) -> Row
+    ensures { result ≡ row_of kind number fetched constraint [] figure }
 {
-    x as u64
-}
-
-// Whether w is a covered neighbour of u with the label.
-fn suits(b: &[u8], t: [[bool; 8]; 8], figures: &[u32; 8], u: usize, label: u16, w: usize) -> bool
-    requires { (Known b.now t) × ((u < size_of b.now) × (w < size_of b.now)) }
-    ensures { result ≡ suited b.now figures.now u label w }
-{
-    (figures[w] != 0) & t[u][w] & (pattern::label(b, w) == label)
-}
-
-// Node w by itself as a way, if it is a covered neighbour of u with the label.
-fn node_only(
-    b: &[u8],
-    t: [[bool; 8]; 8],
-    figures: &[u32; 8],
-    u: usize,
-    label: u16,
-    w: usize,
-) -> Best
-    requires { (Known b.now t) × ((u < size_of b.now) × (w < size_of b.now)) }
-    ensures { way_in result ≡ smallest (cond (suited b.now figures.now u label w) (node_only (figure_of figures.now) w ∷ []) []) }
-{
-    if suits(b, t, figures, u, label, w) {
-        let n = w as u32;
-        let figure = wide(figures[w]);
-        let row = Row {
-            kind: 0,
-            number: n,
-            fetched: n,
-            constraint: 0,
-            first: 255,
-            second: 255,
-            third: 255,
-            figure: figure,
-        };
-        return Best {
-            found: true,
-            row: row,
-        };
-    }
-    no_way()
-}
-
-// The covered neighbour of u with the label that has the smallest figure.
-fn least(b: &[u8], t: [[bool; 8]; 8], figures: &[u32; 8], u: usize, label: u16) -> Best
-    requires { (Known b.now t) × (u < size_of b.now) }
-    ensures { way_in result ≡ least (figure_of figures.now) (covered_with b.now figures.now u label) }
-{
-    let p = pattern::size_of(b);
-    let mut best = no_way();
-    for w in 0..p {
-        best = better(best, node_only(b, t, figures, u, label, w));
-    }
-    best
-}
-
-// What a label of S asks for, given the best node for it.
-fn slot_of(label: u16, best: Best) -> Slot
-    ensures { result ≡ slot_of label (way_in best) }
-{
-    if label == 0 {
-        return Slot {
-            found: true,
-            node: 255,
-            figure: 1,
-        };
-    }
-    if best.found {
-        let node = best.row.number;
-        let figure = best.row.figure;
-        return Slot {
-            found: true,
-            node: node,
-            figure: figure,
-        };
-    }
-    Slot {
-        found: false,
-        node: 0,
-        figure: 0,
+    Row {
+        kind,
+        number,
+        fetched,
+        constraint,
+        first: 255,
+        second: 255,
+        third: 255,
+        figure,
     }
 }
 
-// The row of a constraint with these chosen nodes, if each is found.
-fn way_of(own: Row, most: u32, first: Slot, second: Slot, third: Slot) -> Best
+// The row with these chosen nodes.
+fn row_by(own: Row, most: u32, first: Chosen, second: Chosen, third: Chosen) -> Row
     requires { (most ≤ 65535) × ((first.figure ≤ 65536) × ((second.figure ≤ 65536) × (third.figure ≤ 65536))) }
-    ensures { way_in result ≡ way_by own most first second third }
+    ensures { result ≡ row_by own most first second third }
 {
-    let figure = most as u64 * first.figure * second.figure * third.figure;
-    if first.found & second.found & third.found {
-        let row = Row {
-            kind: own.kind,
-            number: own.number,
-            fetched: own.fetched,
-            constraint: own.constraint,
-            first: first.node,
-            second: second.node,
-            third: third.node,
-            figure: figure,
+    Row {
+        first: first.node,
+        second: second.node,
+        third: third.node,
+        figure: u64::from(most) * first.figure * second.figure * third.figure,
+        ..own
+    }
+}
+
+impl<'a> Lent<'a> {
+    // Whether w is a covered neighbour of u with the label.
+    fn suits(self, u: usize, label: u16, w: usize) -> bool
+        requires { (u < size_of self.b.now) × (w < size_of self.b.now) }
+        ensures { result ≡ suited self.entry.b.now self.entry.figures.now u label w }
+    {
+        (self.figures[w] != 0) & self.t[u][w] & (pattern::label(self.b, w) == label)
+    }
+
+    // Whether the other node, if one is given, suits one of the labels of S.
+    fn suits_one(self, u: usize, k: Constraint, other: Option<usize>) -> bool
+        requires { (u < size_of self.b.now) × (Inside self.b.now other) }
+        ensures { result ≡ one_suited self.entry.b.now self.entry.figures.now u k other }
+    {
+        let Some(o) = other else {
+            return true;
         };
-        return Best {
-            found: true,
-            row: row,
-        };
+        self.suits(u, k.first, o) | self.suits(u, k.second, o) | self.suits(u, k.third, o)
     }
-    no_way()
-}
 
-// The slot of a label for fetching u.
-fn slot_for(b: &[u8], t: [[bool; 8]; 8], figures: &[u32; 8], u: usize, label: u16) -> Slot
-    requires { (Known b.now t) × ((Small figures.now) × (u < size_of b.now)) }
-    ensures { (result ≡ slot_of label (least (figure_of figures.now) (covered_with b.now figures.now u label))) × (result.figure ≤ 65536) }
-{
-    if label == 0 {
-        return slot_of(label, no_way());
+    // Node w by itself as a way, if it is a covered neighbour of u with the label.
+    fn node_only(self, u: usize, label: u16, w: usize) -> Option<Row>
+        requires { (u < size_of self.b.now) × (w < size_of self.b.now) }
+        ensures { way_in result ≡ smallest (cond (suited self.entry.b.now self.entry.figures.now u label w) (node_only (figure_of self.entry.figures.now) w ∷ []) []) }
+    {
+        if !self.suits(u, label, w) {
+            return None;
+        }
+        let n = w as u32;
+        Some(row_of(0, n, n, 0, u64::from(self.figures[w])))
     }
-    slot_of(label, least(b, t, figures, u, label))
-}
 
-// The best way to fetch u by a constraint k whose label it has.
-fn node_slots(
-    b: &[u8],
-    t: [[bool; 8]; 8],
-    figures: &[u32; 8],
-    u: usize,
-    k: Constraint,
-    own: Row,
-) -> Best
-    requires { (Known b.now t) × ((Small figures.now) × ((u < size_of b.now) × (k.most ≤ 65535))) }
-    ensures { way_in result ≡ node_slots b.now figures.now u k own }
-{
-    let first = slot_for(b, t, figures, u, k.first);
-    let second = slot_for(b, t, figures, u, k.second);
-    let third = slot_for(b, t, figures, u, k.third);
-    way_of(own, k.most, first, second, third)
-}
-
-// The best way to fetch node u by constraint c.
-fn node_way(
-    constraints: &[u8],
-    b: &[u8],
-    t: [[bool; 8]; 8],
-    figures: &[u32; 8],
-    u: usize,
-    c: usize,
-) -> Best
-    requires { (WaysReady constraints.now b.now t figures.now) × ((u < size_of b.now) × (c < constraints_in constraints.now)) }
-    ensures { way_in result ≡ smallest (node_by constraints.now b.now figures.now u c) }
-{
-    let k = store::constraint_at(constraints, c);
-    if pattern::label(b, u) != k.label {
-        return no_way();
+    // The best node for a label among the covered neighbours of u; another node, if given, must be chosen where it suits.
+    fn least(self, u: usize, label: u16, other: Option<usize>) -> Option<Row>
+        requires { (u < size_of self.b.now) × (Inside self.b.now other) }
+        ensures { way_in result ≡ least (figure_of self.entry.figures.now) (narrowed other (covered_with self.entry.b.now self.entry.figures.now u label)) }
+    {
+        if let Some(o) = other {
+            let fixed = self.node_only(u, label, o);
+            if fixed.is_some() {
+                return fixed;
+            }
+        }
+        (0..pattern::size_of(self.b)).fold(
+            None,
+            |best, w| better(best, self.node_only(u, label, w)),
+        )
     }
-    let n = u as u32;
-    let own = Row {
-        kind: 0,
-        number: n,
-        fetched: n,
-        constraint: c as u32,
-        first: 0,
-        second: 0,
-        third: 0,
-        figure: 0,
-    };
-    node_slots(b, t, figures, u, k, own)
-}
 
-// The best way to fetch node u.
-fn best_for_node(
-    constraints: &[u8],
-    b: &[u8],
-    t: [[bool; 8]; 8],
-    figures: &[u32; 8],
-    u: usize,
-) -> Best
-    requires { (WaysReady constraints.now b.now t figures.now) × (u < size_of b.now) }
-    ensures { way_in result ≡ smallest (node_ways constraints.now b.now figures.now u) }
-{
-    let n = constraints.len() / 12;
-    let mut best = no_way();
-    for c in 0..n {
-        best = better(best, node_way(constraints, b, t, figures, u, c));
+    // The slot of a label for fetching u, if there is a node for it.
+    fn slot(self, u: usize, label: u16, other: Option<usize>) -> Option<Chosen>
+        requires { (u < size_of self.b.now) × (Inside self.b.now other) }
+        ensures value { result ≡ slot_of label (least (figure_of self.entry.figures.now) (narrowed other (covered_with self.entry.b.now self.entry.figures.now u label))) }
+        ensures small { IfSome result (λ s. s.figure ≤ 65536) }
+    {
+        if label == 0 {
+            return Some(Chosen {
+                node: 255,
+                figure: 1,
+            });
+        }
+        let best = self.least(u, label, other)?;
+        Some(Chosen {
+            node: best.number,
+            figure: best.figure,
+        })
     }
-    best
-}
 
-// The best way to fetch node u, if it is not covered.
-fn best_if_uncovered(
-    constraints: &[u8],
-    b: &[u8],
-    t: [[bool; 8]; 8],
-    figures: &[u32; 8],
-    u: usize,
-) -> Best
-    requires { (WaysReady constraints.now b.now t figures.now) × (u < size_of b.now) }
-    ensures { way_in result ≡ smallest (cond (not (covered figures.now u)) (node_ways constraints.now b.now figures.now u) []) }
-{
-    if figures[u] != 0 {
-        return no_way();
+    // The way that the best slots of the labels of S make, for fetching u by a constraint k whose label it has.
+    fn slots(self, u: usize, k: Constraint, own: Row, other: Option<usize>) -> Option<Row>
+        requires { (u < size_of self.b.now) × ((Inside self.b.now other) × (k.most ≤ 65535)) }
+        ensures { way_in result ≡ slots self.entry.b.now self.entry.figures.now u k own other }
+    {
+        let first = self.slot(u, k.first, other)?;
+        let second = self.slot(u, k.second, other)?;
+        let third = self.slot(u, k.third, other)?;
+        Some(row_by(own, k.most, first, second, third))
     }
-    best_for_node(constraints, b, t, figures, u)
-}
 
-// The best way of all uncovered nodes.
-pub fn best_way(constraints: &[u8], b: &[u8], t: [[bool; 8]; 8], figures: &[u32; 8]) -> Best
-    requires { WaysReady constraints.now b.now t figures.now }
-    ensures { way_in result ≡ smallest (all_ways constraints.now b.now figures.now) }
-{
-    let p = pattern::size_of(b);
-    let mut best = no_way();
-    for u in 0..p {
-        best = better(best, best_if_uncovered(constraints, b, t, figures, u));
+    // The best way to fetch u by constraint c, as a row of a kind and a number; another node, if given, must be among the chosen ones.
+    fn way_by(self, kind: u32, number: u32, u: usize, c: usize, other: Option<usize>) -> Option<Row>
+        requires { (u < size_of self.b.now) × ((c < constraints_in self.constraints.now) × (Inside self.b.now other)) }
+        ensures { way_in result ≡ smallest (rows_by self.entry.constraints.now self.entry.b.now self.entry.figures.now kind number u c other) }
+    {
+        let k = store::constraint_at(self.constraints, c);
+        if pattern::label(self.b, u) != k.label {
+            return None;
+        }
+        if !self.suits_one(u, k, other) {
+            return None;
+        }
+        self.slots(u, k, row_of(kind, number, u as u32, c as u32, 0), other)
     }
-    best
-}
 
-// The best node for a label, where node o must be chosen if it suits.
-fn least_with(
-    b: &[u8],
-    t: [[bool; 8]; 8],
-    figures: &[u32; 8],
-    u: usize,
-    label: u16,
-    o: usize,
-) -> Best
-    requires { (Known b.now t) × ((u < size_of b.now) × (o < size_of b.now)) }
-    ensures { way_in result ≡ least (figure_of figures.now) (narrow o (covered_with b.now figures.now u label)) }
-{
-    if suits(b, t, figures, u, label, o) {
-        return node_only(b, t, figures, u, label, o);
+    // The best way to fetch node u.
+    fn best_for_node(self, u: usize) -> Option<Row>
+        requires { u < size_of self.b.now }
+        ensures { way_in result ≡ smallest (node_ways self.entry.constraints.now self.entry.b.now self.entry.figures.now u) }
+    {
+        let n = self.constraints.len() / 12;
+        (0..n).fold(
+            None,
+            |best, c| better(best, self.way_by(0, u as u32, u, c, None)),
+        )
     }
-    least(b, t, figures, u, label)
-}
 
-// Whether node o suits one of the labels of S.
-fn suits_one(
-    b: &[u8],
-    t: [[bool; 8]; 8],
-    figures: &[u32; 8],
-    u: usize,
-    k: Constraint,
-    o: usize,
-) -> bool
-    requires { (Known b.now t) × ((u < size_of b.now) × (o < size_of b.now)) }
-    ensures { result ≡ (suited b.now figures.now u k.first o || suited b.now figures.now u k.second o || suited b.now figures.now u k.third o) }
-{
-    suits(b, t, figures, u, k.first, o)
-        | suits(b, t, figures, u, k.second, o)
-        | suits(b, t, figures, u, k.third, o)
-}
-
-// The slot of a label for fetching u, where node o must be chosen if it suits.
-fn slot_with(
-    b: &[u8],
-    t: [[bool; 8]; 8],
-    figures: &[u32; 8],
-    u: usize,
-    label: u16,
-    o: usize,
-) -> Slot
-    requires { (Known b.now t) × ((Small figures.now) × ((u < size_of b.now) × (o < size_of b.now))) }
-    ensures { (result ≡ slot_of label (least (figure_of figures.now) (narrow o (covered_with b.now figures.now u label)))) × (result.figure ≤ 65536) }
-{
-    if label == 0 {
-        return slot_of(label, no_way());
+    // The best way to fetch node u, if it is not covered.
+    fn best_if_uncovered(self, u: usize) -> Option<Row>
+        requires { u < size_of self.b.now }
+        ensures { way_in result ≡ smallest (cond (not (covered self.entry.figures.now u)) (node_ways self.entry.constraints.now self.entry.b.now self.entry.figures.now u) []) }
+    {
+        if self.figures[u] != 0 {
+            return None;
+        }
+        self.best_for_node(u)
     }
-    slot_of(label, least_with(b, t, figures, u, label, o))
+
+    // The best way of all uncovered nodes.
+    fn best_way(self) -> Option<Row>
+        ensures { way_in result ≡ smallest (all_ways self.entry.constraints.now self.entry.b.now self.entry.figures.now) }
+    {
+        (0..pattern::size_of(self.b)).fold(None, |best, u| better(best, self.best_if_uncovered(u)))
+    }
+
+    // The best way by constraint c to cover edge j, one end being fetched and the other chosen.
+    fn best_by(self, j: usize, c: usize) -> Option<Row>
+        requires { (j < edges_of self.b.now) × (c < constraints_in self.constraints.now) }
+        ensures { way_in result ≡ smallest (flat_map (end_ways self.entry.constraints.now self.entry.b.now self.entry.figures.now j c) (ends_of self.entry.b.now j)) }
+    {
+        let from = pattern::from(self.b, j);
+        let to = pattern::to(self.b, j);
+        let (low, high) = if from < to { (from, to) } else { (to, from) };
+        better(
+            self.way_by(1, j as u32, low, c, Some(high)),
+            self.way_by(1, j as u32, high, c, Some(low)),
+        )
+    }
+
+    // The best way to cover edge j.
+    fn best_for_edge(self, j: usize) -> Option<Row>
+        requires { j < edges_of self.b.now }
+        ensures { way_in result ≡ smallest (edge_ways self.entry.constraints.now self.entry.b.now self.entry.figures.now j) }
+    {
+        let n = self.constraints.len() / 12;
+        (0..n).fold(None, |best, c| better(best, self.best_by(j, c)))
+    }
 }
 
-// The best way to cover an edge by a constraint k whose label its fetched end u has and one of whose slots the other end o takes.
-fn end_slots(
-    b: &[u8],
-    t: [[bool; 8]; 8],
-    figures: &[u32; 8],
-    u: usize,
-    k: Constraint,
-    own: Row,
-    o: usize,
-) -> Best
-    requires { (Known b.now t) × ((Small figures.now) × ((u < size_of b.now) × ((o < size_of b.now) × (k.most ≤ 65535)))) }
-    ensures { way_in result ≡ end_slots b.now figures.now u k own o }
-{
-    let first = slot_with(b, t, figures, u, k.first, o);
-    let second = slot_with(b, t, figures, u, k.second, o);
-    let third = slot_with(b, t, figures, u, k.third, o);
-    way_of(own, k.most, first, second, third)
-}
+impl<'a> Asked<'a> {
+    // The best way of all nodes that these figures leave uncovered.
+    pub fn best_way(self, figures: &[u32; 8]) -> Option<Row>
+        requires { Small figures.now }
+        ensures { way_in result ≡ smallest (all_ways self.entry.constraints.now self.entry.b.now figures.now) }
+    {
+        Lent {
+            constraints: self.constraints,
+            b: self.b,
+            t: self.t,
+            figures,
+        }
+        .best_way()
+    }
 
-// The best way by constraint c to cover edge j, with fetched end f and o the other end.
-fn end_way(
-    constraints: &[u8],
-    b: &[u8],
-    t: [[bool; 8]; 8],
-    figures: &[u32; 8],
-    j: usize,
-    c: usize,
-    f: usize,
-    o: usize,
-) -> Best
-    requires { (WaysReady constraints.now b.now t figures.now) × ((f < size_of b.now) × ((o < size_of b.now) × ((c < constraints_in constraints.now) × (j < edges_of b.now)))) }
-    ensures { way_in result ≡ smallest (end_by constraints.now b.now figures.now j c f o) }
-{
-    let k = store::constraint_at(constraints, c);
-    if pattern::label(b, f) != k.label {
-        return no_way();
+    // The best way to cover edge j, with the nodes that these figures cover.
+    pub fn best_for_edge(self, figures: &[u32; 8], j: usize) -> Option<Row>
+        requires { (Small figures.now) × (j < edges_of self.b.now) }
+        ensures { way_in result ≡ smallest (edge_ways self.entry.constraints.now self.entry.b.now figures.now j) }
+    {
+        Lent {
+            constraints: self.constraints,
+            b: self.b,
+            t: self.t,
+            figures,
+        }
+        .best_for_edge(j)
     }
-    if !suits_one(b, t, figures, f, k, o) {
-        return no_way();
-    }
-    let own = Row {
-        kind: 1,
-        number: j as u32,
-        fetched: f as u32,
-        constraint: c as u32,
-        first: 0,
-        second: 0,
-        third: 0,
-        figure: 0,
-    };
-    end_slots(b, t, figures, f, k, own, o)
-}
-
-// The best way by constraint c to cover edge j, the lower end x or the higher end y being fetched.
-fn best_by(
-    constraints: &[u8],
-    b: &[u8],
-    t: [[bool; 8]; 8],
-    figures: &[u32; 8],
-    j: usize,
-    c: usize,
-) -> Best
-    requires { (WaysReady constraints.now b.now t figures.now) × ((j < edges_of b.now) × (c < constraints_in constraints.now)) }
-    ensures { way_in result ≡ smallest (flat_map (end_ways constraints.now b.now figures.now j c) (ends_of b.now j)) }
-{
-    let from = pattern::from(b, j);
-    let to = pattern::to(b, j);
-    if from < to {
-        return better(
-            end_way(constraints, b, t, figures, j, c, from, to),
-            end_way(constraints, b, t, figures, j, c, to, from),
-        );
-    }
-    better(
-        end_way(constraints, b, t, figures, j, c, to, from),
-        end_way(constraints, b, t, figures, j, c, from, to),
-    )
-}
-
-// The best way to cover edge j.
-pub fn best_for_edge(
-    constraints: &[u8],
-    b: &[u8],
-    t: [[bool; 8]; 8],
-    figures: &[u32; 8],
-    j: usize,
-) -> Best
-    requires { (WaysReady constraints.now b.now t figures.now) × (j < edges_of b.now) }
-    ensures { way_in result ≡ smallest (edge_ways constraints.now b.now figures.now j) }
-{
-    let n = constraints.len() / 12;
-    let mut best = no_way();
-    for c in 0..n {
-        best = better(best, best_by(constraints, b, t, figures, j, c));
-    }
-    best
 }

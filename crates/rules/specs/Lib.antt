@@ -9,5 +9,6 @@ pub mod Match
 pub mod Plan
 pub mod Listing
 pub mod Answers
+pub mod Refused
 pub mod World
 mod Cases

@@ -1,6 +1,9 @@
 // The types that code and definitions share. The definitions are in specs/.
 #![tactic(auto)]
 
+ghost use Rattle.std.specs.Prelude.{◌≡◌};
+ghost use Rattle.rules.specs.Refused.{refusal_number, number_of};
+
 // The limits of a store, and of T: most_nodes and so on in the definitions.
 pub const MOST_NODES: u32 = 65535;
 
@@ -24,8 +27,8 @@ pub struct Constraint {
     pub most: u32,
 }
 
-// A key of a constraint: the constraint's number and three node ids, unused ones 4,294,967,295.
-#[derive(Clone, Copy)]
+// A key of a constraint: the constraint's number and three node ids, unused ones 4,294,967,295. Keys are ordered by the fields as they stand.
+#[derive(Clone, Copy, PartialEq, Eq, PartialOrd, Ord)]
 pub struct Key {
     pub constraint: u32,
     pub first: u32,
@@ -33,11 +36,11 @@ pub struct Key {
     pub third: u32,
 }
 
-// What a lookup finds: where the list starts among the entries, and how many it has.
+// What a lookup finds of a key that has a list: where it starts among the entries, and how many it has.
 #[derive(Clone, Copy)]
-pub enum Found {
-    At(u32, u32),
-    Nothing,
+pub struct Bounds {
+    pub start: u32,
+    pub count: u32,
 }
 
 // An edge of the graph.
@@ -65,6 +68,52 @@ pub struct Row {
     pub second: u32,
     pub third: u32,
     pub figure: u64,
+}
+
+// Why a call answers nothing: a variant for each published number from 1 to 11, in that order.
+#[derive(Clone, Copy, PartialEq, Eq)]
+pub enum Refusal {
+    Header,
+    Record,
+    Constraint,
+    LongList,
+    Unfit,
+    Pattern,
+    Uncovered,
+    Bound,
+    Work,
+    Room,
+    Index,
+}
+
+impl From<Refusal> for u32 {
+    ghost from_gives = { λ refusal number. number ≡ refusal_number refusal };
+
+    fn from(refusal: Refusal) -> u32 {
+        match refusal {
+            Refusal::Header => 1,
+            Refusal::Record => 2,
+            Refusal::Constraint => 3,
+            Refusal::LongList => 4,
+            Refusal::Unfit => 5,
+            Refusal::Pattern => 6,
+            Refusal::Uncovered => 7,
+            Refusal::Bound => 8,
+            Refusal::Work => 9,
+            Refusal::Room => 10,
+            Refusal::Index => 11,
+        }
+    }
+}
+
+// The number of what a call gives back: 0 where it answers.
+pub fn number_of<T>(given: &Result<T, Refusal>) -> u32
+    ensures { result ≡ number_of given.now }
+{
+    match given {
+        Ok(_) => 0,
+        Err(refusal) => u32::from(*refusal),
+    }
 }
 
 // What building gives back: the number, and the length of the store.

@@ -1,48 +1,23 @@
 // Makes a call and says what came: the number, the results, and how far each room was changed.
 ghost use Rattle.std.specs.Prelude.{◌≤◌, length};
 
-use rules::Listed;
-
-// Writes text; a write that fails is left at that.
-pub fn say(rt: &impl Print, text: &[u8]) {
-    let _ = rt.write_all(text);
-}
-
-// Writes a name and a number.
-fn say_number(rt: &impl Print, name: &[u8], n: u64) {
-    say(rt, name);
-    let _ = rt.print(n);
-}
+use list::Listed;
+use rules::Refusal;
+use run_text::{say, say_number};
 
 // Writes which call was made on what, and its number.
 fn say_answer(rt: &impl Print, call: &[u8], what: &[u8], number: u32) {
     say(rt, call);
     say(rt, what);
-    say_number(rt, b": ", number as u64);
+    say_number(rt, b": ", u64::from(number));
 }
 
-// How far a room that held nines was changed: the place past the last byte that is not 9.
-fn changed_bytes(room: &[u8]) -> usize {
-    let mut n = room.len();
-    while 0 < n {
-        if room[n - 1] != 9 {
-            return n;
-        }
-        n -= 1;
+// How far a room that held nines was changed: the place past the last byte or word that is not 9.
+fn changed<T: PartialEq>(room: &[T], nine: &T) -> usize {
+    match room.iter().rposition(|x| x != nine) {
+        Some(last) => last + 1,
+        None => 0,
     }
-    0
-}
-
-// The same of words.
-fn changed_words(room: &[u32]) -> usize {
-    let mut n = room.len();
-    while 0 < n {
-        if room[n - 1] != 9 {
-            return n;
-        }
-        n -= 1;
-    }
-    0
 }
 
 // Builds a draft into the first bytes of a room of nines.
@@ -52,7 +27,7 @@ fn build_in(rt: &impl Print, what: &[u8], draft: &[u8], room: &mut [u8], bytes: 
     let built = build::build(draft, &mut room[..bytes]);
     say_answer(rt, b"building, ", what, built.number);
     say_number(rt, b"; length ", built.length as u64);
-    say_number(rt, b"; bytes changed ", changed_bytes(room) as u64);
+    say_number(rt, b"; bytes changed ", changed(room, &9) as u64);
     say(rt, b"\n");
 }
 
@@ -82,9 +57,9 @@ fn plan_in(
     requires { words ≤ length room.old }
 {
     let planned = plan::plan(store, pattern, &mut room[..words]);
-    say_answer(rt, b"planning, ", what, planned.number);
-    say_number(rt, b"; bound ", planned.bound as u64);
-    say_number(rt, b"; words changed ", changed_words(room) as u64);
+    say_answer(rt, b"planning, ", what, rules::number_of(&planned));
+    say_number(rt, b"; bound ", u64::from(planned.unwrap_or_default()));
+    say_number(rt, b"; words changed ", changed(room, &9) as u64);
     say(rt, b"\n");
 }
 
@@ -97,12 +72,13 @@ pub fn planning(rt: &impl Print, what: &[u8], store: &[u8], pattern: &[u8], word
 }
 
 // Writes what listing gave back.
-fn say_listed(rt: &impl Print, what: &[u8], listed: Listed) {
-    say_answer(rt, b"listing, ", what, listed.number);
+fn say_listed(rt: &impl Print, what: &[u8], answer: Result<Listed, Refusal>) {
+    say_answer(rt, b"listing, ", what, rules::number_of(&answer));
+    let listed = answer.unwrap_or_default();
     say_number(rt, b"; matches ", listed.matches);
-    say_number(rt, b" nodes ", listed.nodes as u64);
-    say_number(rt, b" edges ", listed.edges as u64);
-    say_number(rt, b" bound ", listed.bound as u64);
+    say_number(rt, b" nodes ", u64::from(listed.nodes));
+    say_number(rt, b" edges ", u64::from(listed.edges));
+    say_number(rt, b" bound ", u64::from(listed.bound));
 }
 
 // Lists the matches of a pattern with the first words of two rooms of nines.
@@ -120,8 +96,8 @@ fn list_in(
 {
     let listed = list::list(store, pattern, &mut work[..working], &mut room[..words]);
     say_listed(rt, what, listed);
-    say_number(rt, b"; words changed ", changed_words(room) as u64);
-    say_number(rt, b", working ", changed_words(work) as u64);
+    say_number(rt, b"; words changed ", changed(room, &9) as u64);
+    say_number(rt, b", working ", changed(work, &9) as u64);
     say(rt, b"\n");
 }
 

@@ -8,7 +8,7 @@ mod worlds;
 ghost use Rattle.std.specs.Prelude.{◌+◌, ◌≤◌};
 
 use calls::{admitting, building, listing, planning};
-use worlds::{draft_with, pattern_with, store_with};
+use worlds::with_word;
 
 // Where N of the first constraint stands, in draft and store.
 const FIRST_N: usize = 160;
@@ -17,14 +17,14 @@ const FIRST_N: usize = 160;
 fn build_with(rt: &impl Print, what: &[u8], draft: [u8; 200], at: usize, x: u32)
     requires { at + 4 ≤ 200 }
 {
-    building(rt, what, &draft_with(draft, at, x), 434);
+    building(rt, what, &with_word(draft, at, x), 434);
 }
 
 // Admits the store with another word at a place.
 fn admit_with(rt: &impl Print, what: &[u8], store: [u8; 432], at: usize, x: u32)
     requires { at + 4 ≤ 432 }
 {
-    admitting(rt, what, &store_with(store, at, x));
+    admitting(rt, what, &with_word(store, at, x));
 }
 
 // Building: 1, 2.
@@ -89,22 +89,22 @@ fn wrong_patterns(rt: &impl Print, store: [u8; 432]) {
     both(
         rt,
         b"a total of 433, p = 9",
-        &store_with(store, 44, 433),
+        &with_word(store, 44, 433),
         &nine,
     );
-    both(rt, b"N = 0, p = 9", &store_with(store, FIRST_N, 0), &nine);
+    both(rt, b"N = 0, p = 9", &with_word(store, FIRST_N, 0), &nine);
     both(rt, b"p = 9", &store, &nine);
     both(rt, b"p = 0", &store, &worlds::none());
 }
 
 // Planning and listing: 7, 8.
 fn unbounded(rt: &impl Print, store: [u8; 432], pattern: [u8; 94]) {
-    let most = store_with(store, FIRST_N, 65535);
+    let most = with_word(store, FIRST_N, 65535);
     both(
         rt,
         b"label 5 for the field, N = 65,535",
         &most,
-        &pattern_with(pattern, 56, 5),
+        &with_word(pattern, 56, 5),
     );
     both(rt, b"A, N = 65,535", &most, &pattern);
 }
@@ -118,7 +118,7 @@ fn plan_rooms(rt: &impl Print, store: [u8; 432], pattern: [u8; 94]) {
 
 // Listing a store with an unfit list: 9, 5.
 fn list_unfit(rt: &impl Print, store: [u8; 432], pattern: [u8; 94]) {
-    let filled = store_with(store, 372, 256);
+    let filled = with_word(store, 372, 256);
     listing(
         rt,
         b"an entry with filler, 75 working and 3 result words",
@@ -167,7 +167,7 @@ fn list_rooms(rt: &impl Print, store: [u8; 432], pattern: [u8; 94]) {
 
 // One locale with N = 65,535: planning and listing answer.
 fn largest_n(rt: &impl Print, store: [u8; 432]) {
-    let most = store_with(store, FIRST_N, 65535);
+    let most = with_word(store, FIRST_N, 65535);
     planning(rt, b"one locale, N = 65,535", &most, &worlds::locale(), 58);
     listing(
         rt,
@@ -199,8 +199,8 @@ fn main(rt: HostRuntime) {
     let mut pattern = [0u8; 94];
     let d = run_files::read_file(&rt, b"draft.bin", &mut draft);
     let b = run_files::read_file(&rt, b"pattern.bin", &mut pattern);
-    if d + b != 294 {
-        calls::say(
+    if (d, b) != (Some(200), Some(94)) {
+        run_text::say(
             &rt,
             b"the small world is not here: draft.bin of 200 bytes and pattern.bin of 94\n",
         );

@@ -1,31 +1,13 @@
 // The small world changed at one word, a world whose index is too large, and small patterns.
 ghost use Rattle.std.specs.Prelude.{◌+◌, ◌*◌, ◌≤◌, ◌≡◌, length};
 
-// A draft with another word at a place.
-pub fn draft_with(draft: [u8; 200], at: usize, x: u32) -> [u8; 200]
-    requires { at + 4 ≤ 200 }
+// A draft, a store or a pattern with another word at a place.
+pub fn with_word<const N: usize>(bytes: [u8; N], at: usize, x: u32) -> [u8; N]
+    requires { at + 4 ≤ N }
 {
-    let mut d = draft;
-    store_words::put_u32(&mut d, at, x);
-    d
-}
-
-// A store with another word at a place.
-pub fn store_with(store: [u8; 432], at: usize, x: u32) -> [u8; 432]
-    requires { at + 4 ≤ 432 }
-{
-    let mut s = store;
-    store_words::put_u32(&mut s, at, x);
-    s
-}
-
-// A pattern of 94 bytes with another word at a place.
-pub fn pattern_with(pattern: [u8; 94], at: usize, x: u32) -> [u8; 94]
-    requires { at + 4 ≤ 94 }
-{
-    let mut b = pattern;
-    store_words::put_u32(&mut b, at, x);
-    b
+    let mut changed = bytes;
+    store_words::put_u32(&mut changed, at, x);
+    changed
 }
 
 // Writes n words from a place on.
@@ -33,10 +15,8 @@ fn put_words(s: &mut [u8], at: usize, xs: &[u32])
     requires { at + length xs.now * 4 ≤ length s.old }
     ensures { length s.new ≡ length s.old }
 {
-    let mut i = 0;
-    while i < xs.len() {
-        store_words::put_u32(s, at + i * 4, xs[i]);
-        i += 1;
+    for (i, &x) in xs.iter().enumerate() {
+        store_words::put_u32(s, at + i * 4, x);
     }
 }
 
@@ -59,10 +39,8 @@ fn put_locales(b: &mut [u8])
     requires { 168 ≤ length b.old }
     ensures { length b.new ≡ length b.old }
 {
-    let mut u: usize = 0;
-    while u < 9 {
+    for u in 0..9 {
         store_words::put_u32(b, 24 + u * 16, 1);
-        u += 1;
     }
 }
 
@@ -79,11 +57,9 @@ fn put_leaves(s: &mut [u8])
     requires { 3188 ≤ length s.old }
     ensures { length s.new ≡ length s.old }
 {
-    let mut i: usize = 0;
-    while i < 195 {
+    for i in 0..195 {
         store_words::put_u32(s, 56 + i * 8, 2 + i as u32 / 65);
         store_words::put_u32(s, 1620 + i * 8, 1 + i as u32);
-        i += 1;
     }
 }
 

@@ -2,6 +2,7 @@
 // std takes a path as text: one that is not UTF-8 names no file here.
 #![tactic(auto)]
 
+ghost use Rattle.std.specs.Option.{IfSome};
 ghost use Rattle.io.specs.Counts.{IsPrefixLen};
 
 use std::io::Read;
@@ -25,24 +26,17 @@ fn read_full(file: &mut impl Read, room: &mut [u8]) -> usize
 // Says whether a file has ended: a read that fails says no.
 fn ended(file: &mut impl Read) -> bool {
     let mut past = [0u8; 1];
-    match file.read(&mut past) {
-        Ok(n) => n == 0,
-        Err(_) => false,
-    }
+    matches!(file.read(&mut past), Ok(0))
 }
 
-// Reads a file into the room and answers its length; 0 if it cannot be read or is longer than the room.
-pub fn read_file(rt: &impl Files, path: &[u8], room: &mut [u8]) -> usize
-    ensures { IsPrefixLen result room.new }
+// Reads a file into the room and answers its length; none if it cannot be read or is longer than the room.
+pub fn read_file(rt: &impl Files, path: &[u8], room: &mut [u8]) -> Option<usize>
+    ensures { IfSome result (λ length. IsPrefixLen length room.new) }
 {
-    let Ok(name) = str::from_utf8(path) else {
-        return 0;
-    };
-    let Ok(mut file) = fs::open(rt, name) else {
-        return 0;
-    };
+    let name = str::from_utf8(path).ok()?;
+    let mut file = fs::open(rt, name).ok()?;
     let length = read_full(&mut file, room);
-    if ended(&mut file) { length } else { 0 }
+    ended(&mut file).then_some(length)
 }
 
 // Writes a file anew, and answers whether all of it was written.

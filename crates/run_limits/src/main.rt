@@ -3,6 +3,8 @@
 
 ghost use Rattle.std.specs.Prelude.{◌≡◌, ◌+◌, ◌≤◌, length};
 
+use rules::Bounds;
+
 // The lowest 32 bits of a number: what is left of a sum that wraps in u32.
 fn low(x: u64) -> u32 {
     (x % 4294967296) as u32
@@ -119,10 +121,11 @@ fn fit(rt: &impl Print, start: u32, count: u32) {
     let entries = [0u8, 0, 0, 0, 0, 0, 0, 0, 1, 0, 0, 0, 0, 0, 0, 0];
     let nodes = [0u8; 16];
     let c = store::constraint_at(&record, 0);
-    say(
-        rt,
-        store::rule_broken(&nodes, c, &entries, start, count) == 0,
-    );
+    let at = Bounds {
+        start: start,
+        count: count,
+    };
+    say(rt, store::rule_broken(&nodes, c, &entries, at).is_none());
 }
 
 // Both parts of the header's cases, then lists that wrap, leave the entries, end with them, and are empty at their end.

@@ -1,8 +1,10 @@
 -- What the program prints.
-use Rattle.std.specs.Prelude.{ℕ, zero, suc, List, [], ◌∷◌, ◌++◌, take, drop, replicate, get_or}
+use Rattle.std.specs.Prelude.{ℕ, zero, suc, List, [], ◌∷◌, ◌++◌, take, drop, replicate, get_or, Result, Ok, Err}
 use Rattle.rules.specs.Pattern.{size_of}
 use Rattle.rules.specs.Answers.{Outcome, list_outcome}
-use Rattle.rules.specs.declared.Listed.{Listed}
+use Rattle.rules.specs.Refused.{refusal_number}
+use Rattle.rules.specs.declared.Refusal.{Refusal}
+use Rattle.list_found.specs.declared.Listed.{Listed}
 use Rattle.run_text.specs.Text.{decimal}
 
 -- the line of the answer: "answer ", the number, " matches ", " nodes ", " edges " and " bound ", each with its result
@@ -15,9 +17,10 @@ answer_text number matches nodes edges bound =
     ++ ((32 ∷ 98 ∷ 111 ∷ 117 ∷ 110 ∷ 100 ∷ 32 ∷ []) ++ decimal bound)
     ++ (10 ∷ [])
 
--- the line of an answer of listing
-abbrev pub answer_line : Listed → List ℕ
-answer_line l = answer_text l.number l.matches l.nodes l.edges l.bound
+-- the line of what listing gives back
+abbrev pub answer_line : Result Listed Refusal → List ℕ
+answer_line (Ok l) = answer_text 0 l.matches l.nodes l.edges l.bound
+answer_line (Err refusal) = answer_text (refusal_number refusal) 0 0 0 0
 
 -- ids, a space before each
 unfoldable pub spaced : List ℕ → List ℕ

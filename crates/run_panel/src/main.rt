@@ -8,8 +8,8 @@ fn main(rt: HostRuntime) {
     let mut store = [0u8; 32768];
     let mut pattern = [0u8; 264];
     let mut out = [0u8; 24576];
-    let s = run_files::read_file(&rt, b"store.bin", &mut store);
-    let b = run_files::read_file(&rt, b"pattern.bin", &mut pattern);
+    let s = run_files::read_file(&rt, b"store.bin", &mut store).unwrap_or(0);
+    let b = run_files::read_file(&rt, b"pattern.bin", &mut pattern).unwrap_or(0);
     let n = show::show(&store[..s], &pattern[..b], &mut out);
     // A write that fails is left at that.
     let _ = rt.write_all(&out[..n]);

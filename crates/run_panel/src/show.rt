@@ -4,25 +4,27 @@ ghost use Rattle.io.specs.Counts.{IsPrefixLen};
 ghost use Rattle.laws.specs.Writing.{Wrote};
 ghost use Rattle.run_panel.specs.Panel.{answer_line, spaced, line, lines, panel_text};
 
-use rules::Listed;
-
-// A word as a u64.
-fn wide(x: u32) -> u64
-    ensures { result ≡ x }
-{
-    x as u64
-}
+use list::Listed;
+use rules::Refusal;
 
 // Writes the line of the answer: the number and the four results.
-fn put_answer(out: &mut [u8], l: Listed) -> usize
+fn put_answer(out: &mut [u8], answer: Result<Listed, Refusal>) -> usize
     requires { 138 ≤ length out.old }
-    ensures { Wrote out.old 0 (answer_line l) out.new result × (result ≤ 138) }
+    ensures { Wrote out.old 0 (answer_line answer) out.new result × (result ≤ 138) }
 {
-    let mut at = run_text::put_named(out, 0, b"answer ", wide(l.number));
+    let nothing = Listed {
+        matches: 0,
+        nodes: 0,
+        edges: 0,
+        bound: 0,
+    };
+    let l = answer.unwrap_or(nothing);
+    let number = u64::from(rules::number_of(&answer));
+    let mut at = run_text::put_named(out, 0, b"answer ", number);
     at = run_text::put_named(out, at, b" matches ", l.matches);
-    at = run_text::put_named(out, at, b" nodes ", wide(l.nodes));
-    at = run_text::put_named(out, at, b" edges ", wide(l.edges));
-    at = run_text::put_named(out, at, b" bound ", wide(l.bound));
+    at = run_text::put_named(out, at, b" nodes ", u64::from(l.nodes));
+    at = run_text::put_named(out, at, b" edges ", u64::from(l.edges));
+    at = run_text::put_named(out, at, b" bound ", u64::from(l.bound));
     run_text::put(out, at, b"\n")
 }
 
@@ -32,10 +34,8 @@ fn put_spaced(out: &mut [u8], at: usize, ids: &[u32]) -> usize
     ensures { Wrote out.old at (spaced ids.now) out.new result }
 {
     let mut past = at;
-    let mut i = 0;
-    while i < ids.len() {
-        past = run_text::put_named(out, past, b" ", wide(ids[i]));
-        i += 1;
+    for &id in ids {
+        past = run_text::put_named(out, past, b" ", u64::from(id));
     }
     past
 }
@@ -45,7 +45,7 @@ fn put_line(out: &mut [u8], at: usize, ids: &[u32]) -> usize
     requires { (1 ≤ length ids.now) × (at + 21 * length ids.now ≤ length out.old) }
     ensures { Wrote out.old at (line ids.now) out.new result }
 {
-    let first = run_text::put_number(out, at, wide(ids[0]));
+    let first = run_text::put_number(out, at, u64::from(ids[0]));
     let past = put_spaced(out, first, &ids[1..]);
     run_text::put(out, past, b"\n")
 }
@@ -56,12 +56,9 @@ fn put_lines(out: &mut [u8], at: usize, ids: &[u32], p: usize, n: usize) -> usiz
     ensures { Wrote out.old at (lines p n ids.now) out.new result × (result ≤ length out.new) }
 {
     let mut past = at;
-    let mut from = 0;
-    let mut left = n;
-    while 0 < left {
+    for i in 0..n {
+        let from = i * p;
         past = put_line(out, past, &ids[from..from + p]);
-        from += p;
-        left -= 1;
     }
     past
 }
@@ -73,8 +70,12 @@ pub fn show(store: &[u8], b: &[u8], out: &mut [u8]) -> usize
 {
     let mut work = [0u32; 4096];
     let mut room = [0u32; 1024];
-    let l = list::list(store, b, &mut work, &mut room);
-    let at = put_answer(out, l);
+    let answer = list::list(store, b, &mut work, &mut room);
+    let at = put_answer(out, answer);
+    let l = match answer {
+        Ok(l) => l,
+        Err(_) => return at,
+    };
     if l.matches == 0 {
         return at;
     }

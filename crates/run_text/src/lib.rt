@@ -1,4 +1,4 @@
-// Text: bytes and decimal numbers, written one after the other over a room of bytes.
+// Text: bytes and decimal numbers, written one after the other over a room of bytes, or printed.
 #![tactic(auto)]
 
 ghost use Rattle.std.specs.Prelude.{◌+◌, ◌≤◌, ◌++◌, length};
@@ -10,12 +10,9 @@ pub fn put(out: &mut [u8], at: usize, bytes: &[u8]) -> usize
     requires { at + length bytes.now ≤ length out.old }
     ensures { Wrote out.old at bytes.now out.new result }
 {
-    let mut i = 0;
-    while i < bytes.len() {
-        out[at + i] = bytes[i];
-        i += 1;
-    }
-    at + i
+    let past = at + bytes.len();
+    out[at..past].copy_from_slice(bytes);
+    past
 }
 
 // Writes a number in decimal digits from a place on, and answers the place past them.
@@ -35,4 +32,15 @@ pub fn put_named(out: &mut [u8], at: usize, name: &[u8], n: u64) -> usize
 {
     let past = put(out, at, name);
     put_number(out, past, n)
+}
+
+// Prints text; a write that fails is left at that.
+pub fn say(rt: &impl Print, text: &[u8]) {
+    let _ = rt.write_all(text);
+}
+
+// Prints a text and a number.
+pub fn say_number(rt: &impl Print, text: &[u8], n: u64) {
+    say(rt, text);
+    let _ = rt.print(n);
 }

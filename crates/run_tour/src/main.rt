@@ -6,7 +6,7 @@ mod show;
 ghost use Rattle.std.specs.Prelude.{length};
 ghost use Rattle.io.specs.Counts.{IsPrefixLen};
 
-use show::{say, say_number};
+use run_text::{say, say_number};
 use std::rt::Files;
 
 // Builds a draft into the room and says its length and the store's; answers the store's.
@@ -35,10 +35,18 @@ fn keep_store(rt: &(impl Files + Print), store: &[u8]) {
 fn show_plan(rt: &impl Print, store: &[u8], pattern: &[u8]) {
     let mut room = [0u32; 512];
     let planned = plan::plan(store, pattern, &mut room);
-    say_number(rt, b"Planning answers ", planned.number as u64);
-    say_number(rt, b": the bound T is ", planned.bound as u64);
+    say_number(
+        rt,
+        b"Planning answers ",
+        u64::from(rules::number_of(&planned)),
+    );
+    say_number(
+        rt,
+        b": the bound T is ",
+        u64::from(planned.unwrap_or_default()),
+    );
     say(rt, b".\n");
-    if planned.number == 0 {
+    if planned.is_ok() {
         show::say_rows(rt, &room);
     }
 }
@@ -48,8 +56,8 @@ fn main(rt: HostRuntime) {
     let mut draft = [0u8; 32768];
     let mut pattern = [0u8; 264];
     let mut store = [0u8; 32768];
-    let d = run_files::read_file(&rt, b"draft.bin", &mut draft);
-    let b = run_files::read_file(&rt, b"pattern.bin", &mut pattern);
+    let d = run_files::read_file(&rt, b"draft.bin", &mut draft).unwrap_or(0);
+    let b = run_files::read_file(&rt, b"pattern.bin", &mut pattern).unwrap_or(0);
     let s = build_store(&rt, &draft[..d], &mut store);
     if s == 0 {
         return;

@@ -6,7 +6,7 @@ mod own;
 
 pub use header::{draft_right, header_right};
 pub use own::records_right;
-pub use store_lookup::{find, label_count, list_part, rule_broken};
+pub use store_lookup::{Rule, find, label_count, list_part, rule_broken};
 pub use store_records::{
     constraint_at, constraints_right, edge_at, edges_right, entry_at, label_at, nodes_right,
     value_at,

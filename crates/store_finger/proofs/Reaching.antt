@@ -4,13 +4,15 @@ use native.Mathlib.Decide.{dec_le}
 use mathlib.Core.Path.{◌≡◌, refl, sym, ap, ◌∙◌}
 use mathlib.Core.Bool.{Bool, true, false, cond, not, true≢false}
 use mathlib.Core.List.{List}
+use Rattle.std.specs.Prelude.{Option, Some, None}
 use Prim.Native.Nat.{ℕ, ◌+◌, ◌/◌, ◌≤◌, ◌<◌}
 use borrow.Author.Tests.{le-leb, lt-leb, not-true, not-false}
 use Rattle.rules.specs.Store.{groups_in}
 use Rattle.rules.specs.Listing.{precedes, low_of}
 use Rattle.rules.specs.declared.Key.{Key}
 use Rattle.laws.specs.Halving.{half-start, half-up, half-down}
-use Rattle.store_finger.specs.Order.{key_less, group_key, passes, lower_group}
+use Rattle.store_finger.specs.Order.{key_less, passes, lower_group}
+use Rattle.store_lookup.specs.Keys.{group_key}
 use Rattle.store_finger.specs.Path.{Reach, PathGoing, Stepped}
 use Rattle.store_finger.specs.declared.Span.{Span}
 use Rattle.store_finger.proofs.Ordering.{denied, key-through, key-apart, key-self, key-later}
@@ -22,35 +24,39 @@ module _ (groups : List ℕ) where
   by-key key i = refl
 
   -- ---- what passes
-  pub passes-none : (key : Key) (i : ℕ) → groups_in groups ≤ i → passes groups key i ≡ true
+  passes-none : (key : Key) (i : ℕ) → groups_in groups ≤ i → passes groups key (Some i) ≡ true
   unfolding passes
   passes-none key i h = rw (le-leb (groups_in groups) i h)
 
-  passes-one : (key : Key) (i : ℕ) → i < groups_in groups → passes groups key i ≡ not (precedes groups key i)
+  passes-one : (key : Key) (i : ℕ) → i < groups_in groups → passes groups key (Some i) ≡ not (precedes groups key i)
   unfolding passes
   passes-one key i h = rw (lt-leb (groups_in groups) i h)
 
-  pub passes-absent : (key : Key) (i : ℕ) → groups_in groups ≤ i → true ≡ passes groups key i
-  passes-absent key i h = sym (passes-none key i h)
+  pub passes-nothing : (key : Key) (o : Option ℕ) → o ≡ None → true ≡ passes groups key o
+  unfolding passes
+  passes-nothing key o e = rw e
 
-  pub passes-tested : (key : Key) (i : ℕ) (r : Bool) → i < groups_in groups → r ≡ precedes groups key i → not r ≡ passes groups key i
-  passes-tested key i r h q = ap not q ∙ sym (passes-one key i h)
+  pub passes-absent : (key : Key) (o : Option ℕ) (i : ℕ) → o ≡ Some i → groups_in groups ≤ i → true ≡ passes groups key o
+  passes-absent key o i e h = rw e (sym (passes-none key i h))
 
-  passes-says : (key : Key) (i : ℕ) → i < groups_in groups → passes groups key i ≡ true → precedes groups key i ≡ false
+  pub passes-tested : (key : Key) (o : Option ℕ) (i : ℕ) (r : Bool) → o ≡ Some i → i < groups_in groups → r ≡ precedes groups key i → not r ≡ passes groups key o
+  passes-tested key o i r e h q = rw e (ap not q ∙ sym (passes-one key i h))
+
+  passes-says : (key : Key) (i : ℕ) → i < groups_in groups → passes groups key (Some i) ≡ true → precedes groups key i ≡ false
   passes-says key i h e = not-true _ (sym (passes-one key i h) ∙ e)
 
   -- what another key passes, if each group that precedes it precedes the other too
-  passes-more : (j k : Key) (i : ℕ) → (precedes groups k i ≡ true → precedes groups j i ≡ true) → passes groups j i ≡ true → passes groups k i ≡ true
+  passes-more : (j k : Key) (i : ℕ) → (precedes groups k i ≡ true → precedes groups j i ≡ true) → passes groups j (Some i) ≡ true → passes groups k (Some i) ≡ true
   passes-more j k i f e = go (dec_le (groups_in groups) i)
     where
-      go : Dec (groups_in groups ≤ i) → passes groups k i ≡ true
+      go : Dec (groups_in groups ≤ i) → passes groups k (Some i) ≡ true
       go (yes q) = passes-none k i q
       go (no q) =
           let h : i < groups_in groups = omega arith in
           let d : precedes groups k i ≡ false = denied _ (λ g. true≢false (sym (f g) ∙ passes-says j i h e)) in
           passes-one k i h ∙ ap not d
 
-  fails-says : (key : Key) (i : ℕ) → passes groups key i ≡ false → (i < groups_in groups) × (precedes groups key i ≡ true)
+  fails-says : (key : Key) (i : ℕ) → passes groups key (Some i) ≡ false → (i < groups_in groups) × (precedes groups key i ≡ true)
   fails-says key i e = go (dec_le (groups_in groups) i)
     where
       go : Dec (groups_in groups ≤ i) → (i < groups_in groups) × (precedes groups key i ≡ true)
@@ -61,22 +67,23 @@ module _ (groups : List ℕ) where
   stays : (key k : Key) (m : ℕ) → key_less k key ≡ false → precedes groups key m ≡ true → precedes groups k m ≡ true
   stays key k m h e = by-key k m ∙ key-through (group_key groups m) key k (sym (by-key key m) ∙ e) h
 
-  pub lower-first : (m i : ℕ) (key : Key) (r : Bool) → key ≡ group_key groups m → r ≡ passes groups key i → r ≡ true → m ≡ lower_group groups m i
+  pub lower-first : (m : ℕ) (o : Option ℕ) (key : Key) (r : Bool) → key ≡ group_key groups m → r ≡ passes groups key o → r ≡ true → Some m ≡ lower_group groups m o
   unfolding lower_group
-  lower-first m i key r e q h = rw (← e, ← q, h)
+  lower-first m o key r e q h = rw (← e, ← q, h)
 
-  pub lower-second : (m i : ℕ) (key : Key) (r : Bool) → key ≡ group_key groups m → r ≡ passes groups key i → r ≡ false → i ≡ lower_group groups m i
+  pub lower-second : (m : ℕ) (o : Option ℕ) (key : Key) (r : Bool) → key ≡ group_key groups m → r ≡ passes groups key o → r ≡ false → o ≡ lower_group groups m o
   unfolding lower_group
-  lower-second m i key r e q h = rw (← e, ← q, h)
+  lower-second m o key r e q h = rw (← e, ← q, h)
 
   -- what the lower of two groups says of both
-  lower-says : (k : Key) (m i : ℕ) → m < groups_in groups → passes groups k (lower_group groups m i) ≡ true
-      → (precedes groups k m ≡ false) × (passes groups k i ≡ true)
-  unfolding lower_group
-  lower-says k m i h = go (passes groups (group_key groups m) i) refl
+  lower-says : (k : Key) (m : ℕ) (o : Option ℕ) → m < groups_in groups → passes groups k (lower_group groups m o) ≡ true
+      → (precedes groups k m ≡ false) × (passes groups k o ≡ true)
+  unfolding lower_group passes
+  lower-says k m None h e = (passes-says k m h e, refl)
+  lower-says k m (Some i) h e = go (passes groups (group_key groups m) (Some i)) refl e
     where
-      go : (t : Bool) → passes groups (group_key groups m) i ≡ t → passes groups k (cond t m i) ≡ true
-          → (precedes groups k m ≡ false) × (passes groups k i ≡ true)
+      go : (t : Bool) → passes groups (group_key groups m) (Some i) ≡ t → passes groups k (cond t (Some m) (Some i)) ≡ true
+          → (precedes groups k m ≡ false) × (passes groups k (Some i) ≡ true)
       go true p e =
           let d : precedes groups k m ≡ false = passes-says k m h e in (
             d,
@@ -92,7 +99,7 @@ module _ (groups : List ℕ) where
           (denied (precedes groups k m) (λ g. true≢false (sym (below g) ∙ key-apart (group_key groups i) (group_key groups m) q)), e)
 
   -- ---- where searches stand
-  pub reach-start : (key : Key) (n : ℕ) → Reach groups key (record { low = 0; high = groups_in groups; least = n })
+  pub reach-start : (key : Key) (n : Option ℕ) → Reach groups key (record { low = 0; high = groups_in groups; least = n })
   unfolding low_of
   reach-start key n = record { left = λ k h p. half-start (precedes groups k) (groups_in groups) }
 
@@ -115,7 +122,7 @@ module _ {groups : List ℕ} {key : Key} {at : Span} (g : PathGoing groups key a
         less = omega (arith, g.left.ordered);
       }
 
-  pub step-down : (n : ℕ) → n ≡ lower_group groups ((at.low + at.high) / 2) at.least → r ≡ false
+  pub step-down : (n : Option ℕ) → n ≡ lower_group groups ((at.low + at.high) / 2) at.least → r ≡ false
       → Stepped groups key at (record { low = at.low; high = (at.low + at.high) / 2; least = n })
   step-down n d e =
       let inside : (at.low + at.high) / 2 < groups_in groups = omega (arith, g.left.ordered, g.left.within) in

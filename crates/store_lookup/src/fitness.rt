@@ -1,22 +1,32 @@
-// Fit lists: the seven rules that a list may break, each told apart by its number.
+// Fit lists, and the seven rules that a list may break.
 ghost use Rattle.std.specs.Prelude.{◌≡◌, not, ◌||◌, ◌+◌, ◌-◌, ◌*◌, ◌^◌, ◌≤◌, ◌<◌, ltb, eqb, length};
 ghost use Rattle.rules.specs.Words.{u32_at};
 ghost use Rattle.rules.specs.Lists.{all_from};
 ghost use Rattle.rules.specs.Store.{nodes_in, labels_of};
 ghost use Rattle.rules.specs.Listing.{inside, list_part, id_right, label_right, rest_right, bits_for, beyond_right, bits_right, rule_broken};
-ghost use Rattle.laws.specs.Fitness.{counted, lower, entry_rule, lowered, lowest_rule, list_rule};
+ghost use Rattle.laws.specs.Fitness.{counted, lower, entry_rule, lowest_rule, list_rule};
+ghost use Rattle.store_lookup.specs.Ruled.{number_or};
 
 use crate::keys::list_part;
-use rules::Constraint;
+use rules::{Bounds, Constraint};
+
+// The rules of a fit list, the first before the others: a variant for each number from 1 to 7.
+#[derive(Clone, Copy, PartialEq, Eq, PartialOrd, Ord)]
+pub enum Rule {
+    Outside,
+    TooLong,
+    Ids,
+    Label,
+    Rest,
+    Beyond,
+    Unjoined,
+}
 
 // 1 for a label, 0 for none.
 fn counted_label(label: u16) -> usize
     ensures { (result ≡ counted label) × (result ≤ 1) }
 {
-    if label == 0 {
-        return 0;
-    }
-    1
+    usize::from(label != 0)
 }
 
 // How many labels S has, which is how many nodes a key has.
@@ -27,10 +37,10 @@ pub fn label_count(c: Constraint) -> usize
 }
 
 // Whether the list is inside the entries; start plus count is a whole number, which does not wrap.
-fn list_inside(entries: &[u8], start: u32, count: u32) -> bool
-    ensures { result ≡ inside entries.now start count }
+fn list_inside(entries: &[u8], at: Bounds) -> bool
+    ensures { result ≡ inside entries.now at.start at.count }
 {
-    start as usize + count as usize <= entries.len() / 8
+    at.start as usize + at.count as usize <= entries.len() / 8
 }
 
 // Whether the id of entry i is below n.
@@ -106,7 +116,7 @@ fn none_beyond(size: usize, directions: u8) -> bool
     requires { size ≤ 3 }
     ensures { result ≡ ltb directions (4 ^ size) }
 {
-    (directions as u32) < directions_for(size)
+    u32::from(directions) < directions_for(size)
 }
 
 // Whether entry i has no direction bit beyond a key of this size.
@@ -135,89 +145,72 @@ fn bits_right(size: usize, list: &[u8], i: usize) -> bool
     each_joined(size, list[i * 8 + 4])
 }
 
-// The lowest rule that entry i breaks, or 8.
-fn entry_rule(nodes: &[u8], c: Constraint, size: usize, list: &[u8], i: usize) -> u32
+// The lowest rule that entry i breaks.
+fn entry_rule(nodes: &[u8], c: Constraint, size: usize, list: &[u8], i: usize) -> Option<Rule>
     requires { (size ≤ 3) × (i * 8 + 8 ≤ length list.now) }
-    ensures { result ≡ entry_rule nodes.now c size list.now i }
+    ensures { number_or 8 result ≡ entry_rule nodes.now c size list.now i }
 {
     if !id_right(nodes, list, i) {
-        return 3;
+        return Some(Rule::Ids);
     }
     if !label_right(nodes, c, list, i) {
-        return 4;
+        return Some(Rule::Label);
     }
     if !rest_right(list, i) {
-        return 5;
+        return Some(Rule::Rest);
     }
     if !beyond_right(size, list, i) {
-        return 6;
+        return Some(Rule::Beyond);
     }
     if !bits_right(size, list, i) {
-        return 7;
+        return Some(Rule::Unjoined);
     }
-    8
+    None
 }
 
-// The lower of two numbers.
-fn lower_of(a: u32, b: u32) -> u32
-    ensures { result ≡ lower a b }
+// The lower of two rules, of which there may be none.
+fn lower_of(a: Option<Rule>, b: Option<Rule>) -> Option<Rule>
+    ensures { number_or 8 result ≡ lower (number_or 8 a) (number_or 8 b) }
 {
-    if b < a {
+    let Some(first) = a else {
         return b;
-    }
-    a
+    };
+    let Some(second) = b else {
+        return a;
+    };
+    if second < first { b } else { a }
 }
 
-// The lower of a rule and the lowest that entry i breaks.
-fn lowered_by(nodes: &[u8], c: Constraint, size: usize, list: &[u8], i: usize, low: u32) -> u32
-    requires { (size ≤ 3) × (i * 8 + 8 ≤ length list.now) }
-    ensures { result ≡ lowered nodes.now c size list.now i low }
-{
-    lower_of(low, entry_rule(nodes, c, size, list, i))
-}
-
-// The lowest rule that an entry breaks, or 8: one pass over the list.
-fn lowest_rule(nodes: &[u8], c: Constraint, size: usize, list: &[u8], count: usize) -> u32
+// The lowest rule that an entry breaks: one pass over the list.
+fn lowest_rule(nodes: &[u8], c: Constraint, size: usize, list: &[u8], count: usize) -> Option<Rule>
     requires { (size ≤ 3) × (count * 8 ≤ length list.now) }
-    ensures { result ≡ lowest_rule nodes.now c size list.now count }
+    ensures { number_or 8 result ≡ lowest_rule nodes.now c size list.now count }
 {
-    let mut low = 8;
+    let mut low = None;
     for i in 0..count {
-        low = lowered_by(nodes, c, size, list, i, low);
+        low = lower_of(low, entry_rule(nodes, c, size, list, i));
     }
     low
 }
 
-// The lowest of rules 3 to 7 that a list breaks, or 0.
-fn list_rule(nodes: &[u8], c: Constraint, size: usize, list: &[u8], count: usize) -> u32
-    requires { (size ≤ 3) × (count * 8 ≤ length list.now) }
-    ensures { result ≡ list_rule nodes.now c size list.now count 0 }
+// The lowest rule that an entry of the list a group names breaks.
+fn named_rule(nodes: &[u8], c: Constraint, entries: &[u8], at: Bounds) -> Option<Rule>
+    requires { at.start * 8 + at.count * 8 ≤ length entries.now }
+    ensures { number_or 0 result ≡ list_rule nodes.now c (length (labels_of c)) (list_part entries.now at.start at.count) at.count 0 }
 {
-    let low = lowest_rule(nodes, c, size, list, count);
-    if low == 8 {
-        return 0;
-    }
-    low
+    let list = list_part(entries, at);
+    lowest_rule(nodes, c, label_count(c), list, at.count as usize)
 }
 
-// The lowest of rules 3 to 7 that the list a group names breaks, or 0.
-fn named_rule(nodes: &[u8], c: Constraint, entries: &[u8], start: u32, count: u32) -> u32
-    requires { start * 8 + count * 8 ≤ length entries.now }
-    ensures { result ≡ list_rule nodes.now c (length (labels_of c)) (list_part entries.now start count) count 0 }
+// The lowest rule of fitness that a list breaks, in 01's order, or none for a fit list.
+pub fn rule_broken(nodes: &[u8], c: Constraint, entries: &[u8], at: Bounds) -> Option<Rule>
+    ensures { number_or 0 result ≡ rule_broken nodes.now c entries.now at.start at.count }
 {
-    let list = list_part(entries, start, count);
-    list_rule(nodes, c, label_count(c), list, count as usize)
-}
-
-// The lowest rule of fitness that a list breaks, 1 to 7 in 01's order, or 0 for a fit list.
-pub fn rule_broken(nodes: &[u8], c: Constraint, entries: &[u8], start: u32, count: u32) -> u32
-    ensures { result ≡ rule_broken nodes.now c entries.now start count }
-{
-    if !list_inside(entries, start, count) {
-        return 1;
+    if !list_inside(entries, at) {
+        return Some(Rule::Outside);
     }
-    if c.most < count {
-        return 2;
+    if c.most < at.count {
+        return Some(Rule::TooLong);
     }
-    named_rule(nodes, c, entries, start, count)
+    named_rule(nodes, c, entries, at)
 }

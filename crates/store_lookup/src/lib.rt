@@ -4,5 +4,5 @@
 mod fitness;
 mod keys;
 
-pub use fitness::{label_count, rule_broken};
-pub use keys::{find, found_at, group_precedes, less_then, list_part};
+pub use fitness::{Rule, label_count, rule_broken};
+pub use keys::{find, found_at, group_key, group_precedes, list_part};

@@ -37,13 +37,7 @@ fn node_right(nodes: &[u8], v: usize) -> bool
 pub fn nodes_right(nodes: &[u8]) -> bool
     ensures { result ≡ nodes_right nodes.now }
 {
-    let n = nodes.len() / 8;
-    for v in 0..n {
-        if !node_right(nodes, v) {
-            return false;
-        }
-    }
-    true
+    (0..nodes.len() / 8).all(|v| node_right(nodes, v))
 }
 
 // Where edge i comes from.
@@ -88,9 +82,7 @@ fn edge_before(edges: &[u8], i: usize, j: usize) -> bool
     requires { (i * 8 + 8 ≤ length edges.now) × (j * 8 + 8 ≤ length edges.now) }
     ensures { result ≡ edge_before edges.now i j }
 {
-    let from = from_at(edges, i);
-    let next = from_at(edges, j);
-    (from < next) | (from == next) & (to_at(edges, i) < to_at(edges, j))
+    (from_at(edges, i), to_at(edges, i)) < (from_at(edges, j), to_at(edges, j))
 }
 
 // Whether edge i is right by itself, and after the edge before it.
@@ -98,26 +90,14 @@ fn edge_right(n: u32, edges: &[u8], i: usize) -> bool
     requires { i * 8 + 8 ≤ length edges.now }
     ensures { result ≡ edge_right n edges.now i }
 {
-    if !edge_alone(n, edges, i) {
-        return false;
-    }
-    if i == 0 {
-        return true;
-    }
-    edge_before(edges, i - 1, i)
+    edge_alone(n, edges, i) && (i == 0 || edge_before(edges, i - 1, i))
 }
 
 // Whether every edge is right, where there are n nodes.
 pub fn edges_right(n: u32, edges: &[u8]) -> bool
     ensures { result ≡ edges_right n edges.now }
 {
-    let m = edges.len() / 8;
-    for i in 0..m {
-        if !edge_right(n, edges, i) {
-            return false;
-        }
-    }
-    true
+    (0..edges.len() / 8).all(|i| edge_right(n, edges, i))
 }
 
 // Constraint c.
@@ -156,15 +136,7 @@ fn constraint_alone(c: Constraint) -> bool
 fn same_labels(c: Constraint, d: Constraint) -> bool
     ensures { result ≡ alike c d }
 {
-    (c.first == d.first) & (c.second == d.second) & (c.third == d.third) & (c.label == d.label)
-}
-
-// Whether constraints d and c differ in S or l.
-fn constraints_differ(constraints: &[u8], d: usize, c: usize) -> bool
-    requires { (d * 12 + 12 ≤ length constraints.now) × (c * 12 + 12 ≤ length constraints.now) }
-    ensures { result ≡ not (alike (constraint_at constraints.now d) (constraint_at constraints.now c)) }
-{
-    !same_labels(constraint_at(constraints, d), constraint_at(constraints, c))
+    (c.first, c.second, c.third, c.label) == (d.first, d.second, d.third, d.label)
 }
 
 // Whether no constraint before c has its S and l.
@@ -172,20 +144,8 @@ fn constraint_new(constraints: &[u8], c: usize) -> bool
     requires { c * 12 + 12 ≤ length constraints.now }
     ensures { result ≡ all_from (λ d. not (alike (constraint_at constraints.now d) (constraint_at constraints.now c))) 0 c }
 {
-    for d in 0..c {
-        if !constraints_differ(constraints, d, c) {
-            return false;
-        }
-    }
-    true
-}
-
-// Whether constraint c by itself is right.
-fn constraint_alone_at(constraints: &[u8], c: usize) -> bool
-    requires { c * 12 + 12 ≤ length constraints.now }
-    ensures { result ≡ constraint_alone (constraint_at constraints.now c) }
-{
-    constraint_alone(constraint_at(constraints, c))
+    let new = constraint_at(constraints, c);
+    (0..c).all(|d| !same_labels(constraint_at(constraints, d), new))
 }
 
 // Whether constraint c is right by itself, and no earlier one has its S and l.
@@ -193,23 +153,14 @@ fn constraint_right(constraints: &[u8], c: usize) -> bool
     requires { c * 12 + 12 ≤ length constraints.now }
     ensures { result ≡ constraint_right constraints.now c }
 {
-    if !constraint_alone_at(constraints, c) {
-        return false;
-    }
-    constraint_new(constraints, c)
+    constraint_alone(constraint_at(constraints, c)) && constraint_new(constraints, c)
 }
 
 // Whether every constraint is right.
 pub fn constraints_right(constraints: &[u8]) -> bool
     ensures { result ≡ constraints_right constraints.now }
 {
-    let k = constraints.len() / 12;
-    for c in 0..k {
-        if !constraint_right(constraints, c) {
-            return false;
-        }
-    }
-    true
+    (0..constraints.len() / 12).all(|c| constraint_right(constraints, c))
 }
 
 // Entry i of a list.

@@ -1,10 +1,12 @@
 // The counts and offsets of a store, and its sections, found in the whole or in the parts before and after its edges: all lent on, none copied.
 #![tactic(auto)]
 
-ghost use Rattle.std.specs.Prelude.{◌≡◌, ◌+◌, ◌*◌, ◌≤◌, ◌<◌, length};
+ghost use Rattle.std.specs.Prelude.{◌≡◌, ◌+◌, ◌-◌, ◌*◌, ◌≤◌, ◌<◌, length};
+ghost use Rattle.rules.specs.Words.{part};
 ghost use Rattle.rules.specs.Store.{node_count, edge_count, constraint_count, group_count, entry_count, edges_at, constraints_at, groups_at, entries_at, end_at, node_part, edge_part, constraint_part, group_part, entry_part};
 ghost use Rattle.laws.specs.Parts.{nodes_before, constraints_after, groups_after, entries_after};
 
+// Stays a function for each count: a caller reads one or two of the five, in words that say which.
 // How many nodes the header counts.
 pub fn node_count(s: &[u8]) -> u32
     requires { 48 ≤ length s.now }
@@ -90,8 +92,7 @@ pub fn node_part(s: &[u8]) -> &[u8]
     requires { edges_at s.now ≤ length s.now }
     ensures { result.now ≡ node_part s.now }
 {
-    let end = edges_at(s);
-    &s[48..end]
+    &s[48..edges_at(s)]
 }
 
 // The edges of a store.
@@ -99,9 +100,7 @@ pub fn edge_part(s: &[u8]) -> &[u8]
     requires { constraints_at s.now ≤ length s.now }
     ensures { result.now ≡ edge_part s.now }
 {
-    let start = edges_at(s);
-    let end = constraints_at(s);
-    &s[start..end]
+    &s[edges_at(s)..constraints_at(s)]
 }
 
 // The constraints of a store.
@@ -109,9 +108,7 @@ pub fn constraint_part(s: &[u8]) -> &[u8]
     requires { groups_at s.now ≤ length s.now }
     ensures { result.now ≡ constraint_part s.now }
 {
-    let start = constraints_at(s);
-    let end = groups_at(s);
-    &s[start..end]
+    &s[constraints_at(s)..groups_at(s)]
 }
 
 // The groups of a store.
@@ -119,9 +116,7 @@ pub fn group_part(s: &[u8]) -> &[u8]
     requires { entries_at s.now ≤ length s.now }
     ensures { result.now ≡ group_part s.now }
 {
-    let start = groups_at(s);
-    let end = entries_at(s);
-    &s[start..end]
+    &s[groups_at(s)..entries_at(s)]
 }
 
 // The entries of a store.
@@ -129,9 +124,7 @@ pub fn entry_part(s: &[u8]) -> &[u8]
     requires { end_at s.now ≤ length s.now }
     ensures { result.now ≡ entry_part s.now }
 {
-    let start = entries_at(s);
-    let end = end_at(s);
-    &s[start..end]
+    &s[entries_at(s)..end_at(s)]
 }
 
 // The nodes, found in what stands before the edges.
@@ -139,8 +132,16 @@ pub fn nodes_before(before: &[u8]) -> &[u8]
     requires { edges_at before.now ≤ length before.now }
     ensures { result.now ≡ nodes_before before.now }
 {
-    let end = edges_at(before);
-    &before[48..end]
+    node_part(before)
+}
+
+// What stands from one offset of the store to another, found in what stands after the edges.
+fn part_after<'a>(before: &[u8], after: &'a [u8], start: usize, end: usize) -> &'a [u8]
+    requires { (48 ≤ length before.now) × (constraints_at before.now ≤ start) × (start ≤ end) × (end ≤ constraints_at before.now + length after.now) }
+    ensures { result.now ≡ part after.now (start - constraints_at before.now) (end - constraints_at before.now) }
+{
+    let behind = constraints_at(before);
+    &after[start - behind..end - behind]
 }
 
 // The constraints, found in what stands before and after the edges.
@@ -148,8 +149,7 @@ pub fn constraints_after<'a>(before: &[u8], after: &'a [u8]) -> &'a [u8]
     requires { (48 ≤ length before.now) × (constraint_count before.now * 12 ≤ length after.now) }
     ensures { result.now ≡ constraints_after before.now after.now }
 {
-    let end = constraint_count(before) as usize * 12;
-    &after[0..end]
+    part_after(before, after, constraints_at(before), groups_at(before))
 }
 
 // The groups, found in what stands before and after the edges.
@@ -157,9 +157,7 @@ pub fn groups_after<'a>(before: &[u8], after: &'a [u8]) -> &'a [u8]
     requires { (48 ≤ length before.now) × (constraint_count before.now * 12 + group_count before.now * 24 ≤ length after.now) }
     ensures { result.now ≡ groups_after before.now after.now }
 {
-    let start = constraint_count(before) as usize * 12;
-    let end = start + group_count(before) as usize * 24;
-    &after[start..end]
+    part_after(before, after, groups_at(before), entries_at(before))
 }
 
 // The entries, found in what stands before and after the edges.
@@ -167,7 +165,5 @@ pub fn entries_after<'a>(before: &[u8], after: &'a [u8]) -> &'a [u8]
     requires { (48 ≤ length before.now) × (constraint_count before.now * 12 + group_count before.now * 24 + entry_count before.now * 8 ≤ length after.now) }
     ensures { result.now ≡ entries_after before.now after.now }
 {
-    let start = constraint_count(before) as usize * 12 + group_count(before) as usize * 24;
-    let end = start + entry_count(before) as usize * 8;
-    &after[start..end]
+    part_after(before, after, entries_at(before), end_at(before))
 }

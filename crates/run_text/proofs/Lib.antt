@@ -1,2 +1,0 @@
--- What the proofs of text share. Assumes nothing.
-pub mod Copied

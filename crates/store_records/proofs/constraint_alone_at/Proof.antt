@@ -1,9 +1,0 @@
--- `store_records::constraint_alone_at` meets its contract. Assumes nothing.
-use borrow.Author.Rules.{rules}
-use Rattle.store_records.proofs.constraint_alone_at.Statement.{statement}
-use Rattle.store_records.proofs.constraint_alone_at.Tie as tie
-
-pub constraint_alone_at_spec : {M : Type 1} → statement M
-constraint_alone_at_spec =
-    tie.close
-    (tie.spec (λ c κs. search rules) (λ c κs. search rules) (λ c. cc))

@@ -1,9 +1,0 @@
--- `store_records::edge_at` meets its contract. Assumes nothing.
-use borrow.Author.Rules.{rules}
-use Rattle.store_records.proofs.edge_at.Statement.{statement}
-use Rattle.store_records.proofs.edge_at.Tie as tie
-
-pub edge_at_spec : {M : Type 1} → statement M
-edge_at_spec =
-    tie.close
-    (tie.spec (λ c κs. search rules) (λ c κs. search rules) (λ c. cc))
