@@ -44,8 +44,8 @@ fn better(a: Option<Row>, b: Option<Row>) -> Option<Row>
     ensures { way_in result ≡ better (way_in a) (way_in b) }
 {
     match (a, b) {
-        (None, _) => b,
         (_, None) => a,
+        (None, _) => b,
         (Some(first), Some(second)) => { if second.figure < first.figure { b } else { a } }
     }
 }
