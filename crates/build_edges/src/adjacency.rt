@@ -72,6 +72,8 @@ fn word_of(u: u32, v: u32) -> Option<u32>
 }
 
 // Whether the word of u and v is among the words of the edges, of which those from u are looked at.
+// In line, so that who asks both ways round of an id that there is not tests it once.
+#[inline(always)]
 pub fn edge_in(edges: &[u8], begins: &[u32], u: u32, v: u32) -> bool
     requires { Edged edges.now begins.now }
     ensures { result ≡ word_in (forward_words edges.now) u v }
