@@ -97,7 +97,10 @@ pub fn put_bytes(room: &mut [u8], at: usize, bytes: &[u8])
     requires { at + length bytes.now ≤ length room.old }
     ensures { room.new ≡ over room.old at bytes.now }
 {
-    room[at..at + bytes.len()].copy_from_slice(bytes);
+    // Not copy_from_slice: for that an archive for C needs memmove from outside.
+    for (i, &x) in bytes.iter().enumerate() {
+        room[at + i] = x;
+    }
 }
 
 // Whether two runs of bytes are the same.
