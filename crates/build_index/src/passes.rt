@@ -9,7 +9,7 @@ ghost use Rattle.build_groups.specs.Emit.{going, output_of, Gives, Placed};
 ghost use Rattle.build_keys.specs.Pass.{above_for, visited, visited_all, Laid, passed};
 ghost use Rattle.build_index.specs.Ready.{Fresh, IndexReady, dealt};
 
-use build_groups::{Edges, Graph, Purpose, Tally, Work};
+use build_groups::{Edges, Graph, Purpose, Stopped, Tally, Work};
 use build_keys::Lists;
 use build_neighbours::{Labels, Sides};
 use rules::{Constraint, Key};
@@ -29,7 +29,7 @@ fn visit_none(
     scratch: &mut [u32],
     room: &mut [u8],
     tally: Tally,
-) -> Option<Tally>
+) -> Result<Tally, Stopped>
     requires { Fresh key × IndexReady work scratch.old room.old }
     ensures { Gives result room.new (dealt work.entry.task lists.above work.entry.graph.nodes.now (set_of work.entry.graph.joined.now) (forward_words work.entry.graph.edges.records.now) [] key [] (labelled_in work.entry.graph.nodes.now lists.label) work.entry.store.now (output_of (going tally) room.old)) }
 {
@@ -53,7 +53,7 @@ fn visit_from(
     scratch: &mut [u32],
     room: &mut [u8],
     tally: Tally,
-) -> Option<Tally>
+) -> Result<Tally, Stopped>
     requires { ((u < 65535) × ((left.third ≡ 0) × Fresh key)) × IndexReady work scratch.old room.old }
     ensures { Gives result room.new (dealt work.entry.task lists.above work.entry.graph.nodes.now (set_of work.entry.graph.joined.now) (forward_words work.entry.graph.edges.records.now) (labels_in left) key (u ∷ []) (side_of work.entry.graph.nodes.now (set_of work.entry.graph.joined.now) u lists.label) work.entry.store.now (output_of (going tally) room.old)) }
 {
@@ -78,7 +78,7 @@ fn visit_each(
     scratch: &mut [u32],
     room: &mut [u8],
     tally: Tally,
-) -> Option<Tally>
+) -> Result<Tally, Stopped>
     requires { ((left.third ≡ 0) × Fresh key) × IndexReady work scratch.old room.old }
     ensures { Gives result room.new (dealt work.entry.task lists.above work.entry.graph.nodes.now (set_of work.entry.graph.joined.now) (forward_words work.entry.graph.edges.records.now) (s ∷ labels_in left) key [] (labelled_in work.entry.graph.nodes.now lists.label) work.entry.store.now (output_of (going tally) room.old)) }
 {
@@ -89,7 +89,7 @@ fn visit_each(
             t = visit_from(work, lists, left, key, u as u32, scratch, room, t)?;
         }
     }
-    Some(t)
+    Ok(t)
 }
 
 // Goes through the keys of constraint c.
@@ -100,7 +100,7 @@ fn visit(
     scratch: &mut [u32],
     room: &mut [u8],
     tally: Tally,
-) -> Option<Tally>
+) -> Result<Tally, Stopped>
     requires { ((c < constraints_in constraints.now) × (constraints_in constraints.now ≤ most_constraints)) × IndexReady work scratch.old room.old }
     ensures { Gives result room.new (visited work.entry.task work.entry.graph.nodes.now (set_of work.entry.graph.joined.now) (forward_words work.entry.graph.edges.records.now) constraints.now work.entry.store.now c (output_of (going tally) room.old)) }
 {
@@ -133,7 +133,7 @@ fn visit_all(
     scratch: &mut [u32],
     room: &mut [u8],
     tally: Tally,
-) -> Option<Tally>
+) -> Result<Tally, Stopped>
     requires { (constraints_in constraints.now ≤ most_constraints) × IndexReady work scratch.old room.old }
     ensures { Gives result room.new (visited_all work.entry.task work.entry.graph.nodes.now (set_of work.entry.graph.joined.now) (forward_words work.entry.graph.edges.records.now) constraints.now work.entry.store.now (output_of (going tally) room.old)) }
 {
@@ -141,17 +141,17 @@ fn visit_all(
     for c in 0..constraints.len() / 12 {
         t = visit(work, constraints, c, scratch, room, t)?;
     }
-    Some(t)
+    Ok(t)
 }
 
-// Counts, writes or compares all groups of the graph of s, whose edges both ways round are arranged; None where it stopped at one.
+// Counts, writes or compares all groups of the graph of s, whose edges both ways round are arranged; Err where it stopped at one.
 pub fn pass<'a>(
     task: Purpose,
     s: &'a [u8],
     joined: &'a [u32],
     store: &'a [u8],
     room: &mut [u8],
-) -> Option<Tally>
+) -> Result<Tally, Stopped>
     requires { Laid s.now joined.now × Placed task (length store.now) (length room.old) }
     ensures { Gives result room.new (passed task s.now store.now room.old) }
 {

@@ -5,7 +5,7 @@ ghost use Rattle.build_edges.specs.Packed.{forward_words};
 ghost use Rattle.build_groups.specs.Emit.{going};
 ghost use Rattle.build_keys.specs.Walk.{with_id, rest_of, WalkFit, WalkDone};
 
-use build_groups::{Tally, Work};
+use build_groups::{Stopped, Tally, Work};
 use build_neighbours::{Labels, Sides};
 use rules::Key;
 
@@ -52,13 +52,13 @@ pub fn walk(
     scratch: &mut [u32],
     room: &mut [u8],
     tally: Tally,
-) -> Option<Tally>
+) -> Result<Tally, Stopped>
     requires { WalkFit work lists.label left key at list.now scratch.old room.old }
     ensures { WalkDone work.entry.task lists.above work.entry.graph.nodes.now (set_of work.entry.graph.joined.now) (forward_words work.entry.graph.edges.records.now) left key at list.now work.entry.store.now (going tally) room.old result room.new }
 {
     let Lists { label, above } = lists;
     if list.len() <= above as usize {
-        return Some(tally);
+        return Ok(tally);
     }
     let Work { graph, task, store } = work;
     if left.first == 0 {
@@ -94,5 +94,5 @@ pub fn walk(
             t,
         )?;
     }
-    Some(t)
+    Ok(t)
 }
