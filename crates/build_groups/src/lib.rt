@@ -67,7 +67,8 @@ pub struct Stopped {
     pub tally: Tally,
 }
 
-// The two bits of key node u and entry v.
+// The two bits of key node u and entry v. Not in line: each of its two lookups is.
+#[inline(never)]
 fn bits(edges: Edges, u: u32, v: u32) -> u8
     requires { Edged edges.records.now edges.begins.now }
     ensures { (result ≡ bits_of (forward_words edges.entry.records.now) u v) × (result < 4) }
@@ -135,6 +136,7 @@ fn group_record(key: Key, start: u32, count: u32) -> [u8; 24]
 }
 
 // The record of an entry.
+#[inline(always)]
 fn entry_record(edges: Edges, key: Key, v: u32) -> [u8; 8]
     requires { Edged edges.records.now edges.begins.now }
     ensures { result ≡ entry_record (forward_words edges.entry.records.now) (ids_of key) v }

@@ -23,15 +23,15 @@ fn above_for(task: Purpose, d: Constraint) -> u32
 
 // Goes through the one key of a constraint without labels.
 fn visit_none(
-    work: Work,
+    work: &Work,
     lists: Lists,
     key: Key,
     scratch: &mut [u32],
     room: &mut [u8],
     tally: Tally,
 ) -> Result<Tally, Stopped>
-    requires { Fresh key × IndexReady work scratch.old room.old }
-    ensures { Gives result room.new (dealt work.entry.task lists.above work.entry.graph.nodes.now (set_of work.entry.graph.joined.now) (forward_words work.entry.graph.edges.records.now) [] key [] (labelled_in work.entry.graph.nodes.now lists.label) work.entry.store.now (output_of (going tally) room.old)) }
+    requires { Fresh key × IndexReady work.now scratch.old room.old }
+    ensures { Gives result room.new (dealt work.now.task lists.above work.now.graph.nodes.now (set_of work.now.graph.joined.now) (forward_words work.now.graph.edges.records.now) [] key [] (labelled_in work.now.graph.nodes.now lists.label) work.now.store.now (output_of (going tally) room.old)) }
 {
     let none = Labels {
         first: 0,
@@ -45,7 +45,7 @@ fn visit_none(
 
 // Goes through the keys that begin with u and go on with nodes of the labels left.
 fn visit_from(
-    work: Work,
+    work: &Work,
     lists: Lists,
     left: Labels,
     key: Key,
@@ -54,8 +54,8 @@ fn visit_from(
     room: &mut [u8],
     tally: Tally,
 ) -> Result<Tally, Stopped>
-    requires { ((u < 65535) × ((left.third ≡ 0) × Fresh key)) × IndexReady work scratch.old room.old }
-    ensures { Gives result room.new (dealt work.entry.task lists.above work.entry.graph.nodes.now (set_of work.entry.graph.joined.now) (forward_words work.entry.graph.edges.records.now) (labels_in left) key (u ∷ []) (side_of work.entry.graph.nodes.now (set_of work.entry.graph.joined.now) u lists.label) work.entry.store.now (output_of (going tally) room.old)) }
+    requires { ((u < 65535) × ((left.third ≡ 0) × Fresh key)) × IndexReady work.now scratch.old room.old }
+    ensures { Gives result room.new (dealt work.now.task lists.above work.now.graph.nodes.now (set_of work.now.graph.joined.now) (forward_words work.now.graph.edges.records.now) (labels_in left) key (u ∷ []) (side_of work.now.graph.nodes.now (set_of work.now.graph.joined.now) u lists.label) work.now.store.now (output_of (going tally) room.old)) }
 {
     let sides = Sides {
         nodes: work.graph.nodes,
@@ -70,7 +70,7 @@ fn visit_from(
 
 // Goes through the keys that begin with a node labelled s and go on with nodes of the labels left.
 fn visit_each(
-    work: Work,
+    work: &Work,
     lists: Lists,
     s: u16,
     left: Labels,
@@ -79,8 +79,8 @@ fn visit_each(
     room: &mut [u8],
     tally: Tally,
 ) -> Result<Tally, Stopped>
-    requires { ((left.third ≡ 0) × Fresh key) × IndexReady work scratch.old room.old }
-    ensures { Gives result room.new (dealt work.entry.task lists.above work.entry.graph.nodes.now (set_of work.entry.graph.joined.now) (forward_words work.entry.graph.edges.records.now) (s ∷ labels_in left) key [] (labelled_in work.entry.graph.nodes.now lists.label) work.entry.store.now (output_of (going tally) room.old)) }
+    requires { ((left.third ≡ 0) × Fresh key) × IndexReady work.now scratch.old room.old }
+    ensures { Gives result room.new (dealt work.now.task lists.above work.now.graph.nodes.now (set_of work.now.graph.joined.now) (forward_words work.now.graph.edges.records.now) (s ∷ labels_in left) key [] (labelled_in work.now.graph.nodes.now lists.label) work.now.store.now (output_of (going tally) room.old)) }
 {
     let nodes = work.graph.nodes;
     let mut t = tally;
@@ -94,15 +94,15 @@ fn visit_each(
 
 // Goes through the keys of constraint c.
 fn visit(
-    work: Work,
+    work: &Work,
     constraints: &[u8],
     c: usize,
     scratch: &mut [u32],
     room: &mut [u8],
     tally: Tally,
 ) -> Result<Tally, Stopped>
-    requires { ((c < constraints_in constraints.now) × (constraints_in constraints.now ≤ most_constraints)) × IndexReady work scratch.old room.old }
-    ensures { Gives result room.new (visited work.entry.task work.entry.graph.nodes.now (set_of work.entry.graph.joined.now) (forward_words work.entry.graph.edges.records.now) constraints.now work.entry.store.now c (output_of (going tally) room.old)) }
+    requires { ((c < constraints_in constraints.now) × (constraints_in constraints.now ≤ most_constraints)) × IndexReady work.now scratch.old room.old }
+    ensures { Gives result room.new (visited work.now.task work.now.graph.nodes.now (set_of work.now.graph.joined.now) (forward_words work.now.graph.edges.records.now) constraints.now work.now.store.now c (output_of (going tally) room.old)) }
 {
     let d = store::constraint_at(constraints, c);
     let lists = Lists {
@@ -139,7 +139,7 @@ fn visit_all(
 {
     let mut t = tally;
     for c in 0..constraints.len() / 12 {
-        t = visit(work, constraints, c, scratch, room, t)?;
+        t = visit(&work, constraints, c, scratch, room, t)?;
     }
     Ok(t)
 }
