@@ -67,8 +67,8 @@ pub struct Stopped {
     pub tally: Tally,
 }
 
-// The two bits of key node u and entry v. Not in line: each of its two lookups is.
-#[inline(never)]
+// The two bits of key node u and entry v.
+#[inline(always)]
 fn bits(edges: Edges, u: u32, v: u32) -> u8
     requires { Edged edges.records.now edges.begins.now }
     ensures { (result ≡ bits_of (forward_words edges.entry.records.now) u v) × (result < 4) }
