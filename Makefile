@@ -77,12 +77,13 @@ install: lib
 	lib/install.sh $(VERSION) "$(PREFIX)" "$(DESTDIR)"
 
 # what stands before the library: the command and its text forms, the commands that the documents show, Rust, C, installing,
-# man page and completions
+# man page and completions, what the library asks from outside
 desk: lib
 	cd python && python3 -m unittest discover --verbose --start-directory tests --top-level-directory .
 	cargo test --offline --manifest-path rust/Cargo.toml
 	$(MAKE) --no-print-directory -C examples/c check
 	tests/desk/install.sh
+	tests/desk/outside.sh
 	tests/desk/pages.sh
 
 ifeq ($(strip $(CALLS)),)

@@ -15,7 +15,7 @@ INTRODUCTION = """# Every public function, and its contract
 
 Made from the code by `tests/contracts.sh --write`; `make test` fails where it is not what the code says, or where a public function has no `ensures`.
 
-In a contract the name of a parameter stands for what was lent: the list of its bytes or words as the call begins. With a ′ it is what is left there as the function returns. Where a function has several promises of a kind, each has a name before a colon. A function without `requires` takes any input. The definitions that a contract names stand in the files listed below it; what a contract leaves open is in [EXCEPTIONS.md](EXCEPTIONS.md).
+In a contract the name of a parameter stands for what was lent: the list of its bytes or words as the call begins. With a ′ it is what is left there as the function returns. Where a function has several promises of a kind, each has a name before a colon. What the type of a parameter asks of its values stands among the `requires`, with the type's name. A function without `requires` takes any input. The definitions that a contract names stand in the files listed below it; what a contract leaves open is in [EXCEPTIONS.md](EXCEPTIONS.md).
 """
 
 FUNCTION = re.compile(
@@ -28,6 +28,11 @@ CLAUSE = re.compile(r"^    (requires|ensures)( \w+)? \{ (.*) \}$")
 PROVIDED = re.compile(r"^ghost use Rattle\.(\w+)\.specs\.([\w.]+)\.\{([^}]*)\};", re.MULTILINE)
 # the methods of a type, indented below it
 METHODS = re.compile(r"^impl(?:<[^>]*>)? (?P<type>\w+)(?:<[^>]*>)? \{\n(?P<body>.*?)^\}$", re.MULTILINE | re.DOTALL)
+# a type, and what its ghost fields ask of its values
+TYPE = re.compile(r"^(?:pub )?struct (?P<name>\w+)(?:<[^>]*>)? \{\n(?P<body>.*?)^\}$", re.MULTILINE | re.DOTALL)
+FACT = re.compile(r"^    (?:pub )?ghost \w+: \{ (.*) \},$", re.MULTILINE)
+FIELD = re.compile(r"^    (?:pub )?(\w+): ", re.MULTILINE)
+PARAMETER = re.compile(r"(\w+): &?(?:'\w+ )?(?:mut )?(\w+)")
 WORD = re.compile(r"[\w'-]+")
 
 
@@ -41,6 +46,7 @@ class Function(NamedTuple):
 
 def plain(term):
     """A term of a contract in words of the page: names for what is lent, names with ′ for what is left."""
+    term = re.sub(r"\b(\w+)\.entry\.", r"\1.", term)
     term = re.sub(r"\b(\w+)\.(?:now|old)\b", r"\1", term)
     return re.sub(r"\b(\w+)\.new\b", r"\1′", term)
 
@@ -55,6 +61,28 @@ def clauses_of(contract):
         yield found[1], name + plain(found[3])
 
 
+def facts_of(text):
+    """What types of a text ask of their values: {type: (fields, facts, the text)}, of those that ask anything."""
+    types = {}
+    for found in TYPE.finditer(text):
+        facts = [plain(fact) for fact in FACT.findall(found["body"])]
+        if facts:
+            types[found["name"]] = FIELD.findall(found["body"]), facts, text
+    return types
+
+
+def asked_by_types(parameters, owner, types):
+    """What the types of a function's parameters ask, as clauses about these parameters."""
+    lent = PARAMETER.findall(parameters)
+    if owner and re.match(r"&?(?:mut )?self\b", parameters):
+        lent.insert(0, ("self", owner))
+    for parameter, name in lent:
+        fields, facts, _ = types.get(name, ([], [], ""))
+        for fact in facts:
+            own = re.sub(r"(?<!\.)\b(\w+)\b", lambda word: f"{parameter}.{word[1]}" if word[1] in fields else word[1], fact)
+            yield "requires", f"(by the type {name}) {own}"
+
+
 def read_from(text):
     """The public functions of a text as they are found in it, each with the type whose method it is, or none."""
     for found in FUNCTION.finditer(text):
@@ -65,7 +93,7 @@ def read_from(text):
             yield methods["type"], found
 
 
-def functions_of(file, exported):
+def functions_of(file, exported, asking):
     """The public functions of a source file. One in a form that is not known here would be left out: that is an error."""
     text = file.read_text(encoding="utf-8")
     every = re.findall(r'^ *pub (?:extern "C" )?fn (\w+)', text, re.MULTILINE)
@@ -76,7 +104,7 @@ def functions_of(file, exported):
         name = f"{owner}::{found['name']}" if owner else found["name"]
         parameters = ", ".join(re.sub(r",\s*$", "", found["parameters"].strip()).split(",\n    "))
         types = found["types"] if found["types"] and ":" in found["types"] else ""
-        contract = list(clauses_of(found["contract"]))
+        contract = [*asked_by_types(parameters, owner, asking), *clauses_of(found["contract"])]
         comment = " ".join(line[3:] for line in found["comment"].splitlines())
         seen = file.name == "lib.rt" or (owner or found["name"]) in exported
         yield Function(name, comment, f"{name}{types}({parameters}){found['result'] or ''}", contract, seen)
@@ -105,18 +133,29 @@ def told(function):
     return "\n".join(lines)
 
 
+def all_facts():
+    """What the types of all crates ask of their values; crates lend them to one another under their own names."""
+    types = {}
+    for file in sorted(ROOT.glob("crates/*/src/*.rt")):
+        types.update(facts_of(file.read_text(encoding="utf-8")))
+    return types
+
+
 def section(folder):
     """The page's section of a crate, and its functions."""
+    asking = all_facts()
     files = [folder / "src" / "lib.rt"] + sorted(file for file in (folder / "src").glob("*.rt") if file.name != "lib.rt")
     root = files[0].read_text(encoding="utf-8")
     exported = re.findall(r"\w+", " ".join(re.findall(r"^pub use \w+::([^;]+);", root, re.MULTILINE)))
-    functions = [function for file in files for function in functions_of(file, exported)]
+    functions = [function for file in files for function in functions_of(file, exported, asking)]
     if not functions:
         return "", []
     purpose = re.match(r"// (.*)\n", root)
     parts = [f"## {folder.name}\n", f"{purpose[1]}\n" if purpose else "", "```text"]
     parts.append("\n\n".join(told(function) for function in functions) + "\n```\n")
-    places = definitions_of("".join(file.read_text(encoding="utf-8") for file in files), functions)
+    clauses = [term for function in functions for _, term in function.contract]
+    cited = [text for name, (_, _, text) in asking.items() if any(term.startswith(f"(by the type {name}) ") for term in clauses)]
+    places = definitions_of("".join(file.read_text(encoding="utf-8") for file in files) + "".join(cited), functions)
     for (crate, file), names in sorted(places.items()):
         path = f"crates/{crate}/specs/{file}.antt"
         place = f"[{crate}/{file}](../{path})" if (ROOT / path).exists() else f"{crate}/{file} of the kit"

@@ -125,6 +125,17 @@ class Contracts(Checkout):
         self.assertIn("// The best.\n// (inside this crate alone)\nS::best(self) -> u32\n    ensures result ≡ 1\n", text)
         self.assertIn("each<F: Fn(usize) -> bool>(test: F)\n    ensures ⊤\n", text)
 
+    def test_what_a_type_asks_stands_among_what_a_function_requires(self):
+        self.write(
+            "crates/plan/src/inner.rt",
+            "pub struct Lent<'a> {\n    pub b: &'a [u8],\n    pub ghost ready: { Ready b.now },\n}\n\n"
+            "impl<'a> Lent<'a> {\n    pub fn best(self) -> u32\n        ensures { result ≡ least self.entry.b.now }\n    {\n    }\n}\n\n"
+            "pub fn all(lent: &Lent, n: usize) -> u32\n    requires { n ≤ 8 }\n    ensures { result ≡ n }\n{\n}\n",
+        )
+        text, _ = contracts.section(self.root / "crates" / "plan")
+        self.assertIn("best(self) -> u32\n    requires (by the type Lent) Ready self.b\n    ensures result ≡ least self.b\n", text)
+        self.assertIn("all(lent: &Lent, n: usize) -> u32\n    requires (by the type Lent) Ready lent.b\n    requires n ≤ 8\n", text)
+
     def test_a_clause_that_cannot_be_read_is_an_error(self):
         self.write("crates/plan/src/inner.rt", INNER.replace("{ result ≡ 1 }", "{ result ≡ 1"))
         with self.assertRaises(SystemExit):

@@ -24,8 +24,8 @@ use Rattle.build_groups.specs.Emit.{Gives, Placed}
 use Rattle.build_keys.specs.Pass.{Right, passed}
 use Rattle.build_groups.specs.declared.Deed.TheVariants.{Compare}
 use Rattle.build_groups.specs.declared.Purpose.{Purpose}
-use Rattle.std.specs.Option.{is_some}
-use Rattle.std.specs.declared.option.Option.{Option}
+use Rattle.std.specs.Prelude.{Result, is_ok}
+use Rattle.build_groups.specs.declared.Stopped.{Stopped}
 use Rattle.build_groups.specs.declared.Tally.{Tally}
 use Rattle.build.specs.Steps.{index_same}
 use Rattle.laws.specs.Over.{over-all}
@@ -42,8 +42,8 @@ compare_task at g e = record { deed = Compare; above_most = false; groups = g; e
 pub placed-compare : (at g e a b : ℕ) → at + g * 24 + e * 8 ≤ a → Placed (compare_task at g e) a b
 placed-compare at g e a b h = record { writes = λ o. absurd (write-compare (sym o)); reads = λ o. record { table = omega arith; lists = omega arith } }
 
-pub index-compared : {s : List ℕ} → Right s → (at g e : ℕ) (r : Option Tally) (room room' : List ℕ) → at ≡ groups_at s → g ≡ length (store_index s) → e ≡ entry_total (store_index s) → groups_at s + g * 24 + e * 8 ≤ length s
-    → Gives r room' (passed (compare_task at g e) s s room) → is_some r ≡ index_same s g e
+pub index-compared : {s : List ℕ} → Right s → (at g e : ℕ) (r : Result Tally Stopped) (room room' : List ℕ) → at ≡ groups_at s → g ≡ length (store_index s) → e ≡ entry_total (store_index s) → groups_at s + g * 24 + e * 8 ≤ length s
+    → Gives r room' (passed (compare_task at g e) s s room) → is_ok r ≡ index_same s g e
 unfolding items_of index_same
 index-compared {s} right at g e r room room' ea eg ee fits q =
     let task = compare_task at g e in

@@ -22,7 +22,8 @@ use Rattle.build_groups.specs.Emit.{Gives, Placed}
 use Rattle.build_keys.specs.Pass.{keyed_by, above_for, Right, passed}
 use Rattle.build_groups.specs.declared.Deed.TheVariants.{Write}
 use Rattle.build_groups.specs.declared.Purpose.{Purpose}
-use Rattle.std.specs.declared.option.Option.{Option}
+use Rattle.std.specs.Prelude.{Result}
+use Rattle.build_groups.specs.declared.Stopped.{Stopped}
 use Rattle.build_groups.specs.declared.Tally.{Tally}
 use Rattle.build_keys.proofs.Going.{keyed-short, keyed-here, keyed-on}
 use Rattle.build_keys.proofs.Passing.{labels-few}
@@ -76,7 +77,7 @@ module _ {s : List ℕ} (right : Right s) where
   unfolding store_graph graph_of
   told = record { edges = graph-edges (edge_part s) (right-sound right).below (right-sound right).ascends }
 
-  pub index-written : (at g e : ℕ) (r : Option Tally) (room room' : List ℕ) → g ≡ length (store_index s) → e ≡ entry_total (store_index s) → at + g * 24 + e * 8 ≤ length room
+  pub index-written : (at g e : ℕ) (r : Result Tally Stopped) (room room' : List ℕ) → g ≡ length (store_index s) → e ≡ entry_total (store_index s) → at + g * 24 + e * 8 ≤ length room
       → Gives r room' (passed (write_task at g e) s s room)
       → room' ≡ over (over room at (group_bytes 0 (store_index s))) (at + g * 24) (entry_bytes (store_index s))
   unfolding items_of

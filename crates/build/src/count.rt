@@ -31,7 +31,7 @@ fn some_above(s: &[u8], joined: &[u32]) -> bool
         lists: 0,
     };
     let t = build_index::pass(task, s, joined, s, &mut none);
-    t.is_none()
+    t.is_err()
 }
 
 // How many groups and entries the index has; None where they are too many.
@@ -48,7 +48,7 @@ fn count_all(s: &[u8], joined: &[u32]) -> Option<Tally>
         table: 0,
         lists: 0,
     };
-    build_index::pass(task, s, joined, s, &mut none)
+    build_index::pass(task, s, joined, s, &mut none).ok()
 }
 
 // Whether the constraints of a store are right.

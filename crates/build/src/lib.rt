@@ -142,7 +142,7 @@ fn index_same(s: &[u8], joined: &[u32], groups: u32, entries: u32) -> bool
     };
     let mut none = [0u8; 1];
     let t = build_index::pass(task, s, joined, s, &mut none);
-    t.is_some()
+    t.is_ok()
 }
 
 // Admits a store without refusal 1, 2 or 3, whose edges both ways round are at hand.

@@ -43,7 +43,8 @@ fn wide_at(edges: &[u8], i: usize) -> u64
     u64::from(edge.from) * 65536 + u64::from(edge.to)
 }
 
-// Whether x stands where a binary search in the edges ends.
+// Whether x stands where a binary search in the edges ends. Not in line: edge_in is, at six places.
+#[inline(never)]
 fn stands_in(edges: &[u8], x: u64) -> bool
     ensures { result ≡ stands_in x (forward_words edges.now) }
 {
@@ -72,6 +73,8 @@ fn word_of(u: u32, v: u32) -> Option<u32>
 }
 
 // Whether the word of u and v is among the words of the edges, of which those from u are looked at.
+// In line, so that an id that there is not costs no call.
+#[inline(always)]
 pub fn edge_in(edges: &[u8], begins: &[u32], u: u32, v: u32) -> bool
     requires { Edged edges.now begins.now }
     ensures { result ≡ word_in (forward_words edges.now) u v }

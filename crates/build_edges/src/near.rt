@@ -92,6 +92,8 @@ fn gather(nodes: &[u8], joined: &[u32], list: &[u32], l: u16, out: &mut [u32]) -
 }
 
 // Leaves the nodes labelled l that are to be tried for a list, ascending, at the front of out, and returns how many they are.
+// Not in line: parts of one slice would be moved in place of copied, and an archive for C need memmove from outside.
+#[inline(never)]
 pub fn tried(
     nodes: &[u8],
     joined: &[u32],

@@ -10,11 +10,10 @@ use borrow.Author.Tests.{not-true, not-false, ltb-true, leb-true}
 use Rattle.rules.specs.Words.{part, over}
 use Rattle.rules.specs.Answers.{same}
 use Rattle.laws.specs.Cases.{first-holds, second-holds}
-use Rattle.build_groups.specs.Emit.{group_record, list_records, Progress, Gives, Output, output_of, within, counted, written, agrees, emit_by, emit, Lies, Fits, group_place, entry_place}
+use Rattle.build_groups.specs.Emit.{group_record, list_records, Progress, Output, output_of, within, counted, written, agrees, emit_by, emit, Lies, Fits, group_place, entry_place}
 use Rattle.build_groups.specs.declared.Deed.{Deed}
 use Rattle.build_groups.specs.declared.Deed.TheVariants.{Count, Write, Compare}
 use Rattle.build_groups.specs.declared.Purpose.{Purpose}
-use Rattle.std.specs.declared.option.Option.TheVariants.{None}
 
 -- what being within the bounds says
 module _ (task : Purpose) (t : Progress) (n : ℕ) (r : Bool) (q : r ≡ within task t n) (inside : not r ≡ false) where
@@ -95,7 +94,3 @@ module _ (task : Purpose) (words : List ℕ) (c : ℕ) (ids list : List ℕ) (t 
       → p ≡ agrees task words c ids list t store
   unfolding agrees list_agrees
   agree-group e h = h ∙ ap (λ x. x && list_agrees) (sym h ∙ e)
-
--- a walk stops
-pub stops : {u : Progress} {room : List ℕ} {s : Output} → u.stopped ≡ true → output_of u room ≡ s → Gives None room s
-stops h e = (sym (ap (λ x. x.tally.stopped) e) ∙ h, ap (λ x. x.room) e)

@@ -3,10 +3,7 @@ use native.Mathlib.Omega.{arith}
 use mathlib.Core.Path.{◌≡◌, refl, sym, ap, ◌∙◌}
 use mathlib.Core.List.{List, [], ◌∷◌, ◌++◌, flat_map}
 use Prim.Native.Nat.{ℕ, ◌+◌, ◌*◌, ◌≤◌}
-use lib.ListN.{length, take, drop, set, length-append}
-use Rattle.std.proofs.Common.{append_assoc}
-use lib.Seq.{drop-drop}
-use borrow.Rule.Slice.PartMut.{put_mid}
+use lib.ListN.{length, set, length-append}
 use Rattle.rules.specs.Words.{u32_bytes, encoded, over}
 use Rattle.laws.specs.Over.{over-over, over-nil, length-over}
 use Rattle.build_groups.specs.Emit.{dirs_of, group_record, entry_record, list_records}
@@ -32,12 +29,6 @@ pub one-entry : (s words ids : List ℕ) (v x : ℕ) (zeros : List ℕ) → x �
     → set s 4 x ≡ entry_record words ids v
 unfolding entry_record over
 one-entry s words ids v x zeros e p z = rw (p, z, e) refl
-
--- bytes that are put into a part of a room
-pub put-over : (room bytes now : List ℕ) (at k : ℕ) → k ≡ length bytes → now ≡ bytes → put_mid at k room now ≡ over room at bytes
-unfolding over
-put-over room bytes now at k e h =
-    rw (e, h) (ap (λ d. take at room ++ (bytes ++ d)) (drop-drop (length bytes) at room) ∙ sym (append_assoc (take at room) bytes (drop (at + length bytes) room)))
 
 pub length-group : (c a b d e f : ℕ) → length (group_record c (a ∷ b ∷ d ∷ []) e f) ≡ 24
 unfolding group_record encoded

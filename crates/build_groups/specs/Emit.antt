@@ -1,7 +1,5 @@
 -- What a walk does with the keys and lists that it comes to: it counts them, writes them or compares them.
-use Rattle.std.specs.Prelude.{ℕ, ◌+◌, ◌*◌, ◌≤◌, ◌≡◌, Bool, true, false, cond, not, ◌&&◌, ltb, leb, length}
-use Rattle.std.specs.Option.{MatchOption}
-use Rattle.std.specs.declared.option.Option.{Option}
+use Rattle.std.specs.Prelude.{ℕ, ◌+◌, ◌*◌, ◌≤◌, ◌≡◌, Bool, true, false, cond, not, ◌&&◌, ltb, leb, length, Result, Ok, Err}
 use mathlib.Core.List.{List, [], ◌∷◌, ◌++◌, flat_map}
 use Rattle.rules.specs.Words.{u32_bytes, encoded, part, over}
 use Rattle.rules.specs.Lists.{padded}
@@ -14,6 +12,7 @@ use Rattle.build_groups.specs.declared.Deed.{Deed}
 use Rattle.build_groups.specs.declared.Deed.TheVariants.{Count, Write, Compare}
 use Rattle.build_groups.specs.declared.Purpose.{Purpose}
 use Rattle.build_groups.specs.declared.Tally.{Tally}
+use Rattle.build_groups.specs.declared.Stopped.{Stopped}
 
 -- the two bits of key node u and entry v
 unfoldable pub bits_of : List ℕ → ℕ → ℕ → ℕ
@@ -47,6 +46,14 @@ pub record Progress : Type 0 where
 abbrev pub going : Tally → Progress
 going t = record { groups = t.groups; entries = t.entries; stopped = false }
 
+abbrev pub halted : Progress → Progress
+halted t = record { groups = t.groups; entries = t.entries; stopped = true }
+
+-- how far a walk has come, by what it gives: on Err it has stopped
+abbrev pub come_to : Result Tally Stopped → Progress
+come_to (Ok t) = going t
+come_to (Err e) = halted (going e.tally)
+
 -- that, and the room that it writes to
 pub record Output : Type 0 where
   pub tally : Progress
@@ -55,9 +62,9 @@ pub record Output : Type 0 where
 abbrev pub output_of : Progress → List ℕ → Output
 output_of t room = record { tally = t; room = room }
 
--- a walk that has come to a tally goes on, and one that has none has stopped
-abbrev pub Gives : Option Tally → List ℕ → Output → Type 0
-Gives r room s = MatchOption r ((s.tally.stopped ≡ true) × (room ≡ s.room)) (λ t. output_of (going t) room ≡ s)
+-- what a walk gives, and the room that it leaves, are this output
+abbrev pub Gives : Result Tally Stopped → List ℕ → Output → Type 0
+Gives r room s = output_of (come_to r) room ≡ s
 
 -- where the next group and the next entry stand
 abbrev pub group_place : Purpose → Progress → ℕ

@@ -61,7 +61,14 @@ pub struct Tally {
     pub entries: u32,
 }
 
+// How far a walk came that stopped: a group out of bounds is not counted, one that the store has not is.
+#[derive(Clone, Copy)]
+pub struct Stopped {
+    pub tally: Tally,
+}
+
 // The two bits of key node u and entry v.
+#[inline(always)]
 fn bits(edges: Edges, u: u32, v: u32) -> u8
     requires { Edged edges.records.now edges.begins.now }
     ensures { (result ≡ bits_of (forward_words edges.entry.records.now) u v) × (result < 4) }
@@ -97,7 +104,10 @@ pub fn put_bytes(room: &mut [u8], at: usize, bytes: &[u8])
     requires { at + length bytes.now ≤ length room.old }
     ensures { room.new ≡ over room.old at bytes.now }
 {
-    room[at..at + bytes.len()].copy_from_slice(bytes);
+    // Not copy_from_slice: for that an archive for C needs memmove from outside.
+    for (i, &x) in bytes.iter().enumerate() {
+        room[at + i] = x;
+    }
 }
 
 // Whether two runs of bytes are the same.
@@ -126,6 +136,7 @@ fn group_record(key: Key, start: u32, count: u32) -> [u8; 24]
 }
 
 // The record of an entry.
+#[inline(always)]
 fn entry_record(edges: Edges, key: Key, v: u32) -> [u8; 8]
     requires { Edged edges.records.now edges.begins.now }
     ensures { result ≡ entry_record (forward_words edges.entry.records.now) (ids_of key) v }
@@ -224,7 +235,7 @@ fn one_agrees(
         && list_same(edges, key, list, store, entry_place(task, tally))
 }
 
-// Does with a key and its list what the task asks; None stops the walk: one group more is out of bounds, or not the one that the store has.
+// Does with a key and its list what the task asks; Err stops the walk: one group more is out of bounds, or not the one that the store has.
 pub fn emit_one(
     task: Purpose,
     edges: Edges,
@@ -233,25 +244,26 @@ pub fn emit_one(
     store: &[u8],
     room: &mut [u8],
     tally: Tally,
-) -> Option<Tally>
+) -> Result<Tally, Stopped>
     requires { ((length list.now ≤ 65536) × Placed task (length store.now) (length room.old)) × Edged edges.records.now edges.begins.now }
     ensures { Gives result room.new (emit task (forward_words edges.entry.records.now) store.now (output_of (going tally) room.old) key.constraint (ids_of key) list.now) }
 {
     let n = list.len() as u32;
     if !is_within(task, tally, n) {
-        return None;
+        return Err(Stopped { tally });
     }
+    let next = one_more(tally, n);
     match task.deed {
-        Deed::Count => Some(one_more(tally, n)),
+        Deed::Count => Ok(next),
         Deed::Write => {
             write_one(task, edges, key, list, room, tally);
-            Some(one_more(tally, n))
+            Ok(next)
         }
         Deed::Compare => {
             if !one_agrees(task, edges, key, list, store, tally) {
-                return None;
+                return Err(Stopped { tally: next });
             }
-            Some(one_more(tally, n))
+            Ok(next)
         }
     }
 }

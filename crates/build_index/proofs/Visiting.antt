@@ -2,8 +2,7 @@
 use native.Mathlib.Omega.{arith}
 use native.Mathlib.Nat.{sub-zero}
 use mathlib.Core.Path.{◌≡◌, refl, sym, ap, subst, ◌∙◌}
-use Rattle.std.specs.declared.option.Option.{Option}
-use Rattle.std.specs.declared.option.Option.TheVariants.{None}
+use Rattle.std.specs.Prelude.{Result, Err}
 use Rattle.laws.specs.Loops.{fold_from, FoldLeft, fold-next}
 use mathlib.Core.Bool.{Bool, true, false, cond}
 use mathlib.Core.List.{List, [], ◌∷◌, flat_map}
@@ -27,12 +26,13 @@ use Rattle.build_neighbours.specs.Useful.{reaches}
 use Rattle.build_neighbours.specs.Left.{labels_left, labels_in}
 use Rattle.build_neighbours.specs.declared.Labels.{Labels}
 use Rattle.build_groups.specs.Keyed.{Keyed, keyed_from}
-use Rattle.build_groups.specs.Emit.{Output, Gives, output_of, emit_all, Placed}
+use Rattle.build_groups.specs.Emit.{Output, going, halted, Gives, output_of, emit_all, Placed}
 use Rattle.build_keys.specs.Walk.{with_id, chosen, WalkFit, WalkDone}
 use Rattle.build_keys.specs.Pass.{above_for, keyed_by, visited, visited_all, nothing, passed}
 use Rattle.build_groups.specs.declared.Purpose.{Purpose}
 use Rattle.build_groups.specs.declared.Work.{Work}
 use Rattle.build_groups.specs.Emit.{Progress}
+use Rattle.build_groups.specs.declared.Stopped.{Stopped}
 use Rattle.build_groups.specs.declared.Tally.{Tally}
 use Rattle.build_index.specs.Ready.{dealt, Fresh, IndexReady}
 use Rattle.build_edges.proofs.Nearby.{labelled-strict}
@@ -110,7 +110,7 @@ pub ready-same : {work : Work} {scratch room scratch' room' : List ℕ} → Inde
 ready-same r es er = record { placed = rw er r.placed; held = r.held; edged = r.edged; long = rw es r.long }
 
 -- ---- what a walk deals with
-module _ (task : Purpose) (above : ℕ) (nodes joined words store : List ℕ) (t : Progress) (room : List ℕ) (r : Option Tally) (room' : List ℕ) (key : Key) where
+module _ (task : Purpose) (above : ℕ) (nodes joined words store : List ℕ) (t : Progress) (room : List ℕ) (r : Result Tally Stopped) (room' : List ℕ) (key : Key) where
   pub none-dealt : {left : Labels} {list : List ℕ} → left ≡ record { first = 0; second = 0; third = 0 } → (list' : List ℕ) → list ≡ list'
       → WalkDone task above nodes joined words left key 0 list store t room r room' → Gives r room' (dealt task above nodes joined words [] key [] list' store (output_of t room))
   unfolding dealt
@@ -180,19 +180,11 @@ module _ (task : Purpose) (above : ℕ) (nodes joined words : List ℕ) (labels 
           ∙ g.todo;
     }
 
-    pub left-broken : {room' : List ℕ} → u < nodes_in nodes → has_label nodes s u ≡ true
-        → Gives None room' (dealt task above nodes joined words labels key (u ∷ []) (side_of nodes joined u l) store (output_of t room)) → Gives None room' whole
-    unfolding dealt flat_map
-    left-broken {room'} h n d =
-        let o = emit_all task words store key.constraint (output_of t room) (onward u) in
-        let f : (o.tally.stopped ≡ true) × (room' ≡ o.room) = d in
-        let e : whole ≡ o =
-        sym g.todo
-        ∙ ap (λ xs. emit_all task words store key.constraint (output_of t room) (flat_map onward xs))
-        (ap (keep (has_label nodes s)) (split h) ∙ keep-yes (has_label nodes s) u (range (u + 1) (nodes_in nodes - (u + 1))) n)
-        ∙ emit_all-append task words store key.constraint (output_of t room) (onward u) (left_from (u + 1))
-        ∙ emit_all-stopped task words store key.constraint o.tally o.room (left_from (u + 1)) f.0 in
-        (ap (λ x. x.tally.stopped) e ∙ f.0, f.1 ∙ sym (ap (λ x. x.room) e))
+    pub left-broken : {e : Stopped} {room' : List ℕ} → u < nodes_in nodes → has_label nodes s u ≡ true
+        → Gives (Err e) room' (dealt task above nodes joined words labels key (u ∷ []) (side_of nodes joined u l) store (output_of t room)) → Gives (Err e) room' whole
+    left-broken {e} {room'} h n d =
+        sym (emit_all-stopped task words store key.constraint (halted (going e.tally)) room' (left_from (u + 1)) refl)
+        ∙ (left-take {t' = halted (going e.tally)} {room' = room'} h n d).todo
 
     pub left-none : nodes_in nodes ≤ u → output_of t room ≡ whole
     unfolding emit_all flat_map range keep
@@ -231,13 +223,11 @@ fold-stopped task nodes joined words constraints store k (suc n) s h =
     ap (fold_from (visited task nodes joined words constraints store) (k + 1) n) (emit_all-stopped task words store k s.tally s.room (keyed_by task nodes joined (constraint_at constraints k)) h)
     ∙ fold-stopped task nodes joined words constraints store (k + 1) n s h
 
-pub all-broken : (task : Purpose) (nodes joined words constraints store : List ℕ) {n k : ℕ} {a whole : Output} {room' : List ℕ}
-    → FoldLeft (visited task nodes joined words constraints store) n k a whole → k < n → Gives None room' (visited task nodes joined words constraints store k a) → Gives None room' whole
-all-broken task nodes joined words constraints store {n} {k} {a} {whole} {room'} g h d =
-    let o = visited task nodes joined words constraints store k a in
-    let f : (o.tally.stopped ≡ true) × (room' ≡ o.room) = d in
-    let e : whole ≡ o = (fold-next g o h refl).rest ∙ fold-stopped task nodes joined words constraints store (k + 1) (n - (k + 1)) o f.0 in
-    (ap (λ x. x.tally.stopped) e ∙ f.0, f.1 ∙ sym (ap (λ x. x.room) e))
+pub all-broken : (task : Purpose) (nodes joined words constraints store : List ℕ) {n k : ℕ} {a whole : Output} {e : Stopped} {room' : List ℕ}
+    → FoldLeft (visited task nodes joined words constraints store) n k a whole → k < n → Gives (Err e) room' (visited task nodes joined words constraints store k a) → Gives (Err e) room' whole
+all-broken task nodes joined words constraints store {n} {k} {a} {whole} {e} {room'} g h d =
+    let o = output_of (halted (going e.tally)) room' in
+    sym ((fold-next g o h d).rest ∙ fold-stopped task nodes joined words constraints store (k + 1) (n - (k + 1)) o refl)
 
 -- ---- the whole of a store
 pub ready-pass : (work : Work) (s scratch room : List ℕ) → work.graph.nodes.now ≡ node_part s → work.graph.edges.records.now ≡ edge_part s → Sound s → Arranged (node_part s) work.graph.joined.now

@@ -9,7 +9,7 @@ ghost use Rattle.build_groups.specs.Emit.{going, output_of, Gives, Placed};
 ghost use Rattle.build_keys.specs.Pass.{above_for, visited, visited_all, Laid, passed};
 ghost use Rattle.build_index.specs.Ready.{Fresh, IndexReady, dealt};
 
-use build_groups::{Edges, Graph, Purpose, Tally, Work};
+use build_groups::{Edges, Graph, Purpose, Stopped, Tally, Work};
 use build_keys::Lists;
 use build_neighbours::{Labels, Sides};
 use rules::{Constraint, Key};
@@ -23,15 +23,15 @@ fn above_for(task: Purpose, d: Constraint) -> u32
 
 // Goes through the one key of a constraint without labels.
 fn visit_none(
-    work: Work,
+    work: &Work,
     lists: Lists,
     key: Key,
     scratch: &mut [u32],
     room: &mut [u8],
     tally: Tally,
-) -> Option<Tally>
-    requires { Fresh key × IndexReady work scratch.old room.old }
-    ensures { Gives result room.new (dealt work.entry.task lists.above work.entry.graph.nodes.now (set_of work.entry.graph.joined.now) (forward_words work.entry.graph.edges.records.now) [] key [] (labelled_in work.entry.graph.nodes.now lists.label) work.entry.store.now (output_of (going tally) room.old)) }
+) -> Result<Tally, Stopped>
+    requires { Fresh key × IndexReady work.now scratch.old room.old }
+    ensures { Gives result room.new (dealt work.now.task lists.above work.now.graph.nodes.now (set_of work.now.graph.joined.now) (forward_words work.now.graph.edges.records.now) [] key [] (labelled_in work.now.graph.nodes.now lists.label) work.now.store.now (output_of (going tally) room.old)) }
 {
     let none = Labels {
         first: 0,
@@ -45,7 +45,7 @@ fn visit_none(
 
 // Goes through the keys that begin with u and go on with nodes of the labels left.
 fn visit_from(
-    work: Work,
+    work: &Work,
     lists: Lists,
     left: Labels,
     key: Key,
@@ -53,9 +53,9 @@ fn visit_from(
     scratch: &mut [u32],
     room: &mut [u8],
     tally: Tally,
-) -> Option<Tally>
-    requires { ((u < 65535) × ((left.third ≡ 0) × Fresh key)) × IndexReady work scratch.old room.old }
-    ensures { Gives result room.new (dealt work.entry.task lists.above work.entry.graph.nodes.now (set_of work.entry.graph.joined.now) (forward_words work.entry.graph.edges.records.now) (labels_in left) key (u ∷ []) (side_of work.entry.graph.nodes.now (set_of work.entry.graph.joined.now) u lists.label) work.entry.store.now (output_of (going tally) room.old)) }
+) -> Result<Tally, Stopped>
+    requires { ((u < 65535) × ((left.third ≡ 0) × Fresh key)) × IndexReady work.now scratch.old room.old }
+    ensures { Gives result room.new (dealt work.now.task lists.above work.now.graph.nodes.now (set_of work.now.graph.joined.now) (forward_words work.now.graph.edges.records.now) (labels_in left) key (u ∷ []) (side_of work.now.graph.nodes.now (set_of work.now.graph.joined.now) u lists.label) work.now.store.now (output_of (going tally) room.old)) }
 {
     let sides = Sides {
         nodes: work.graph.nodes,
@@ -70,7 +70,7 @@ fn visit_from(
 
 // Goes through the keys that begin with a node labelled s and go on with nodes of the labels left.
 fn visit_each(
-    work: Work,
+    work: &Work,
     lists: Lists,
     s: u16,
     left: Labels,
@@ -78,9 +78,9 @@ fn visit_each(
     scratch: &mut [u32],
     room: &mut [u8],
     tally: Tally,
-) -> Option<Tally>
-    requires { ((left.third ≡ 0) × Fresh key) × IndexReady work scratch.old room.old }
-    ensures { Gives result room.new (dealt work.entry.task lists.above work.entry.graph.nodes.now (set_of work.entry.graph.joined.now) (forward_words work.entry.graph.edges.records.now) (s ∷ labels_in left) key [] (labelled_in work.entry.graph.nodes.now lists.label) work.entry.store.now (output_of (going tally) room.old)) }
+) -> Result<Tally, Stopped>
+    requires { ((left.third ≡ 0) × Fresh key) × IndexReady work.now scratch.old room.old }
+    ensures { Gives result room.new (dealt work.now.task lists.above work.now.graph.nodes.now (set_of work.now.graph.joined.now) (forward_words work.now.graph.edges.records.now) (s ∷ labels_in left) key [] (labelled_in work.now.graph.nodes.now lists.label) work.now.store.now (output_of (going tally) room.old)) }
 {
     let nodes = work.graph.nodes;
     let mut t = tally;
@@ -89,20 +89,20 @@ fn visit_each(
             t = visit_from(work, lists, left, key, u as u32, scratch, room, t)?;
         }
     }
-    Some(t)
+    Ok(t)
 }
 
 // Goes through the keys of constraint c.
 fn visit(
-    work: Work,
+    work: &Work,
     constraints: &[u8],
     c: usize,
     scratch: &mut [u32],
     room: &mut [u8],
     tally: Tally,
-) -> Option<Tally>
-    requires { ((c < constraints_in constraints.now) × (constraints_in constraints.now ≤ most_constraints)) × IndexReady work scratch.old room.old }
-    ensures { Gives result room.new (visited work.entry.task work.entry.graph.nodes.now (set_of work.entry.graph.joined.now) (forward_words work.entry.graph.edges.records.now) constraints.now work.entry.store.now c (output_of (going tally) room.old)) }
+) -> Result<Tally, Stopped>
+    requires { ((c < constraints_in constraints.now) × (constraints_in constraints.now ≤ most_constraints)) × IndexReady work.now scratch.old room.old }
+    ensures { Gives result room.new (visited work.now.task work.now.graph.nodes.now (set_of work.now.graph.joined.now) (forward_words work.now.graph.edges.records.now) constraints.now work.now.store.now c (output_of (going tally) room.old)) }
 {
     let d = store::constraint_at(constraints, c);
     let lists = Lists {
@@ -133,25 +133,25 @@ fn visit_all(
     scratch: &mut [u32],
     room: &mut [u8],
     tally: Tally,
-) -> Option<Tally>
+) -> Result<Tally, Stopped>
     requires { (constraints_in constraints.now ≤ most_constraints) × IndexReady work scratch.old room.old }
     ensures { Gives result room.new (visited_all work.entry.task work.entry.graph.nodes.now (set_of work.entry.graph.joined.now) (forward_words work.entry.graph.edges.records.now) constraints.now work.entry.store.now (output_of (going tally) room.old)) }
 {
     let mut t = tally;
     for c in 0..constraints.len() / 12 {
-        t = visit(work, constraints, c, scratch, room, t)?;
+        t = visit(&work, constraints, c, scratch, room, t)?;
     }
-    Some(t)
+    Ok(t)
 }
 
-// Counts, writes or compares all groups of the graph of s, whose edges both ways round are arranged; None where it stopped at one.
+// Counts, writes or compares all groups of the graph of s, whose edges both ways round are arranged; Err where it stopped at one.
 pub fn pass<'a>(
     task: Purpose,
     s: &'a [u8],
     joined: &'a [u32],
     store: &'a [u8],
     room: &mut [u8],
-) -> Option<Tally>
+) -> Result<Tally, Stopped>
     requires { Laid s.now joined.now × Placed task (length store.now) (length room.old) }
     ensures { Gives result room.new (passed task s.now store.now room.old) }
 {

@@ -1,8 +1,7 @@
 -- The state of `walk`'s loop, and the laws that take it from its start over each kind of turn to its ends. Assumes nothing.
 use native.Mathlib.Omega.{arith}
 use mathlib.Core.Path.{◌≡◌, refl, sym, ap, subst, ◌∙◌}
-use Rattle.std.specs.declared.option.Option.{Option}
-use Rattle.std.specs.declared.option.Option.TheVariants.{None, Some}
+use Rattle.std.specs.Prelude.{Result, Ok, Err}
 use mathlib.Core.Bool.{Bool, true}
 use mathlib.Core.List.{List, [], ◌∷◌, ◌++◌, flat_map}
 use Prim.Native.Nat.{ℕ, zero, suc, ◌+◌, ◌*◌, ◌/◌, ◌≤◌, ◌<◌}
@@ -23,11 +22,12 @@ use Rattle.build_neighbours.specs.Pairs.{part_told, Paired}
 use Rattle.build_neighbours.specs.Left.{labels_left, labels_in}
 use Rattle.build_neighbours.specs.declared.Labels.{Labels}
 use Rattle.build_groups.specs.Keyed.{Keyed, keyed_from}
-use Rattle.build_groups.specs.Emit.{ids_of, Output, going, Gives, output_of, emit, emit_all}
+use Rattle.build_groups.specs.Emit.{ids_of, Output, going, halted, Gives, output_of, emit, emit_all}
 use Rattle.build_keys.specs.Walk.{with_id, rest_of, chosen, keyed_of, WalkFit, WalkDone}
 use Rattle.build_groups.specs.declared.Purpose.{Purpose}
 use Rattle.build_groups.specs.declared.Work.{Work}
 use Rattle.build_groups.specs.Emit.{Progress}
+use Rattle.build_groups.specs.declared.Stopped.{Stopped}
 use Rattle.build_groups.specs.declared.Tally.{Tally}
 use Rattle.build_edges.proofs.Nearby.{labelled-strict}
 use Rattle.build_groups.proofs.Emitting.{emit-stopped}
@@ -211,14 +211,14 @@ module _ {task : Purpose} {above : ℕ} {nodes joined words : List ℕ} {left : 
             ∙ emit_all-append task words store key.constraint (output_of t room) (next above nodes joined left key at list u) (from above nodes joined left key at list (u + 1))
 
         module _ {room' list' : List ℕ} {key' : Key} {left' : Labels} (b : at < 3) (k : key' ≡ with_id key at u) (l : left' ≡ rest_of left) (m : list' ≡ keep (word_in joined u) list) where
-          given : {o : Option Tally} → WalkDone task above nodes joined words left' key' (at + 1) list' store t room o room'
+          given : {o : Result Tally Stopped} → WalkDone task above nodes joined words left' key' (at + 1) list' store t room o room'
               → Gives o room' (emit_all task words store key.constraint (output_of t room) (next above nodes joined left key at list u))
           given d =
               let c : key'.constraint ≡ key.constraint = ap (λ x. x.constraint) k ∙ with-constraint key at u in
               let ids : chosen key' (at + 1) ≡ chosen key at ++ u ∷ [] = ap (λ x. chosen x (at + 1)) k ∙ chosen-more key at u b in
               rw (c, ids, m, l) at d.all
 
-          pub taken : {t' : Tally} → WalkDone task above nodes joined words left' key' (at + 1) list' store t room (Some t') room'
+          pub taken : {t' : Tally} → WalkDone task above nodes joined words left' key' (at + 1) list' store t room (Ok t') room'
               → WalkGoing task above nodes joined words left key at list store t₀ room₀ run n r (going t') room'
           taken {t'} d =
               let f : output_of (going t') room' ≡ emit_all task words store key.constraint (output_of t room) (next above nodes joined left key at list u) = given d in
@@ -236,14 +236,16 @@ module _ {task : Purpose} {above : ℕ} {nodes joined words : List ℕ} {left : 
                 todo = goes ∙ ap (λ s. emit_all task words store key.constraint s (from above nodes joined left key at list (u + 1))) (sym f);
               }
 
-          pub broken : WalkDone task above nodes joined words left' key' (at + 1) list' store t room None room' → WalkDone task above nodes joined words left key at list store t₀ room₀ None room'
-          broken d =
-              let s = emit_all task words store key.constraint (output_of t room) (next above nodes joined left key at list u) in
-              let f : (s.tally.stopped ≡ true) × (room' ≡ s.room) = given d in
-              let e = goes ∙ emit_all-stopped task words store key.constraint s.tally s.room (from above nodes joined left key at list (u + 1)) f.0 in
-              record { all = (ap (λ x. x.tally.stopped) e ∙ f.0, f.1 ∙ sym (ap (λ x. x.room) e)) }
+          pub broken : {e : Stopped} → WalkDone task above nodes joined words left' key' (at + 1) list' store t room (Err e) room'
+              → WalkDone task above nodes joined words left key at list store t₀ room₀ (Err e) room'
+          broken {e} d =
+              let f : output_of (halted (going e.tally)) room' ≡ emit_all task words store key.constraint (output_of t room) (next above nodes joined left key at list u) = given d in
+              record {
+                all = sym (goes ∙ ap (λ s. emit_all task words store key.constraint s (from above nodes joined left key at list (u + 1))) (sym f)
+                    ∙ emit_all-stopped task words store key.constraint (halted (going e.tally)) room' (from above nodes joined left key at list (u + 1)) refl);
+              }
 
-    pub ended : {t' : Tally} → going t' ≡ t → n ≤ i → WalkDone task above nodes joined words left key at list store t₀ room₀ (Some t') room
+    pub ended : {t' : Tally} → going t' ≡ t → n ≤ i → WalkDone task above nodes joined words left key at list store t₀ room₀ (Ok t') room
     unfolding emit_all
     ended e h =
         let w = g.whole in
@@ -255,7 +257,7 @@ module _ {task : Purpose} {above : ℕ} {nodes joined words : List ℕ} {left : 
 
 module _ {task : Purpose} {above : ℕ} {nodes joined words : List ℕ} {left : Labels} {key : Key} {at : ℕ} {list store : List ℕ} {t₀ : Progress} {room₀ : List ℕ} where
   -- a list that is too short, and a key that is whole
-  pub none : {t : Tally} → going t ≡ t₀ → length list ≤ above → WalkDone task above nodes joined words left key at list store t₀ room₀ (Some t) room₀
+  pub none : {t : Tally} → going t ≡ t₀ → length list ≤ above → WalkDone task above nodes joined words left key at list store t₀ room₀ (Ok t) room₀
   unfolding emit_all
   none e h = record {
     all =
@@ -263,7 +265,7 @@ module _ {task : Purpose} {above : ℕ} {nodes joined words : List ℕ} {left : 
         ∙ sym (ap (emit_all task words store key.constraint (output_of t₀ room₀)) (keyed-short (word_in joined) (labelled_in nodes) above (labels_in left) (chosen key at) list h));
   }
 
-  pub whole : {r : Option Tally} {room : List ℕ} → above < length list → left.first ≡ 0 → padded no_id (chosen key at) ≡ ids_of key
+  pub whole : {r : Result Tally Stopped} {room : List ℕ} → above < length list → left.first ≡ 0 → padded no_id (chosen key at) ≡ ids_of key
       → Gives r room (emit task words store (output_of t₀ room₀) key.constraint (ids_of key) list) → WalkDone task above nodes joined words left key at list store t₀ room₀ r room
   unfolding emit_all
   whole {r} {room} h z e d = record {

@@ -28,10 +28,12 @@ use Rattle.build_keys.specs.Pass.{above_for, keyed_by, Right, nothing, passed}
 use Rattle.build_groups.specs.declared.Deed.{Deed}
 use Rattle.build_groups.specs.declared.Deed.TheVariants.{Count, Write, Compare}
 use Rattle.build_groups.specs.declared.Purpose.{Purpose}
+use Rattle.build_groups.specs.declared.Stopped.{Stopped}
 use Rattle.build_groups.specs.declared.Tally.{Tally}
-use Rattle.std.specs.Option.{MatchOption, is_none, is_some}
+use Rattle.std.specs.Option.{MatchOption}
 use Rattle.std.specs.declared.option.Option.{Option}
-use Rattle.std.specs.declared.option.Option.TheVariants.{None, Some}
+use Rattle.std.specs.Result.{result_ok}
+use Rattle.std.specs.Prelude.{Result, Ok, Err, is_ok, is_err}
 use Rattle.build_edges.proofs.Edges.{less-word, words-strict}
 use Rattle.build_keys.proofs.Groups.{keyed_in, to_group, groups-of, satisfies-keyed}
 use Rattle.build_keys.proofs.Graphs.{graph-joined, graph-labelled, labels-of}
@@ -216,19 +218,18 @@ abbrev pub count_task : Purpose
 count_task = record { deed = Count; above_most = false; groups = 262144; entries = 1048576; table = 0; lists = 0 }
 
 -- whether a walk stopped, by what it gave
-pub stopped-told : (r : Option Tally) (room : List ℕ) (s : Output) → Gives r room s → is_none r ≡ s.tally.stopped
-stopped-told None room s d = sym d.0
-stopped-told (Some t) room s d = ap (λ x. x.tally.stopped) d
+pub stopped-told : (r : Result Tally Stopped) (room : List ℕ) (s : Output) → Gives r room s → is_err r ≡ s.tally.stopped
+stopped-told (Ok t) room s d = ap (λ x. x.tally.stopped) d
+stopped-told (Err e) room s d = ap (λ x. x.tally.stopped) d
 
-pub going-told : (r : Option Tally) (room : List ℕ) (s : Output) → Gives r room s → is_some r ≡ not s.tally.stopped
-going-told None room s d = ap not (sym d.0)
-going-told (Some t) room s d = ap (λ x. not x.tally.stopped) d
+pub going-told : (r : Result Tally Stopped) (room : List ℕ) (s : Output) → Gives r room s → is_ok r ≡ not s.tally.stopped
+going-told (Ok t) room s d = ap (λ x. not x.tally.stopped) d
+going-told (Err e) room s d = ap (λ x. not x.tally.stopped) d
 
-pub room-told : (r : Option Tally) (room : List ℕ) (s : Output) → Gives r room s → room ≡ s.room
-room-told None room s d = d.1
-room-told (Some t) room s d = ap (λ x. x.room) d
+pub room-told : (r : Result Tally Stopped) (room : List ℕ) (s : Output) → Gives r room s → room ≡ s.room
+room-told r room s d = ap (λ x. x.room) d
 
-pub exceeds-told : {s : List ℕ} → Right s → (r : Option Tally) (room room' : List ℕ) → Gives r room' (passed exceed_task s s room) → is_none r ≡ exceeds s
+pub exceeds-told : {s : List ℕ} → Right s → (r : Result Tally Stopped) (room room' : List ℕ) → Gives r room' (passed exceed_task s s room) → is_err r ≡ exceeds s
 exceeds-told {s} right r room room' e = go (dec_le (length xs) 0)
   where
     xs : List Item
@@ -237,13 +238,13 @@ exceeds-told {s} right r room room' e = go (dec_le (length xs) 0)
     words : List ℕ
     words = forward_words (edge_part s)
 
-    e' : is_none r ≡ (emit_items exceed_task words s (output_of nothing room) xs).tally.stopped
+    e' : is_err r ≡ (emit_items exceed_task words s (output_of nothing room) xs).tally.stopped
     e' = stopped-told r room' (passed exceed_task s s room) e ∙ ap (λ x. x.tally.stopped) (passed-items right exceed_task s room)
 
     x : exceeds s ≡ not (eqb (length xs) 0)
     x = exceeds-items right exceed_task s refl
 
-    go : Dec (length xs ≤ 0) → is_none r ≡ exceeds s
+    go : Dec (length xs ≤ 0) → is_err r ≡ exceeds s
     go (yes h) =
         let t = none-total xs h in
         e' ∙ ap (λ y. y.tally.stopped) (count-fits exceed_task words s refl 0 0 room xs (omega arith) (omega arith)) ∙ sym (x ∙ ap not (eq-eqb (length xs) 0 (omega arith)))
@@ -254,13 +255,13 @@ abbrev Counted : List ℕ → Option Tally → Type 0
 Counted s r = MatchOption r (too_many s ≡ true) (λ t. (too_many s ≡ false) × ((t.groups ≡ length (store_index s)) × (t.entries ≡ entry_total (store_index s))))
 
 -- a walk that has stopped, and one that has not, by what it came to
-counted-by : (s : List ℕ) (r : Option Tally) (room : List ℕ) (o : Output) → Gives r room o → o.tally.stopped ≡ too_many s
-    → (o.tally.stopped ≡ false → (o.tally.groups ≡ length (store_index s)) × (o.tally.entries ≡ entry_total (store_index s))) → Counted s r
-counted-by s None room o d h k = sym h ∙ d.0
-counted-by s (Some t) room o d h k =
+counted-by : (s : List ℕ) (r : Result Tally Stopped) (room : List ℕ) (o : Output) → Gives r room o → o.tally.stopped ≡ too_many s
+    → (o.tally.stopped ≡ false → (o.tally.groups ≡ length (store_index s)) × (o.tally.entries ≡ entry_total (store_index s))) → Counted s (result_ok r)
+counted-by s (Ok t) room o d h k =
     let e : false ≡ o.tally.stopped = ap (λ x. x.tally.stopped) d in
     let q = k (sym e) in
     (sym h ∙ sym e, (ap (λ x. x.tally.groups) d ∙ q.0, ap (λ x. x.tally.entries) d ∙ q.1))
+counted-by s (Err e) room o d h k = sym h ∙ sym (ap (λ x. x.tally.stopped) d)
 
 counts-told : {s : List ℕ} → Right s → (room : List ℕ) (o : Output) → o ≡ passed count_task s s room
     → (o.tally.stopped ≡ too_many s) × (o.tally.stopped ≡ false → (o.tally.groups ≡ length (store_index s)) × (o.tally.entries ≡ entry_total (store_index s)))
@@ -300,8 +301,8 @@ counts-told {s} right room o e = go (dec_le (length xs) 262144) (dec_le (total x
     go (yes h) (no k) = over (λ a b. k (omega arith)) (rw (le-ltb most_groups (length (store_index s)) (omega (arith, n)), lt-ltb most_entries (entry_total (store_index s)) (omega (arith, m))))
     go (no h) k = over (λ a b. h (omega arith)) (rw (lt-ltb most_groups (length (store_index s)) (omega (arith, n))))
 
-pub count-told : {s : List ℕ} → Right s → (r : Option Tally) (room room' : List ℕ) → Gives r room' (passed count_task s s room)
-    → MatchOption r (too_many s ≡ true) (λ t. (too_many s ≡ false) × ((t.groups ≡ length (store_index s)) × (t.entries ≡ entry_total (store_index s))))
+pub count-told : {s : List ℕ} → Right s → (r : Result Tally Stopped) (room room' : List ℕ) → Gives r room' (passed count_task s s room)
+    → MatchOption (result_ok r) (too_many s ≡ true) (λ t. (too_many s ≡ false) × ((t.groups ≡ length (store_index s)) × (t.entries ≡ entry_total (store_index s))))
 count-told {s} right r room room' d =
     let q = counts-told right room (passed count_task s s room) refl in
     counted-by s r room' (passed count_task s s room) d q.0 q.1

@@ -1,6 +1,5 @@
 -- What the walk over keys asks and promises.
-use Rattle.std.specs.Prelude.{ℕ, ◌+◌, ◌*◌, ◌≤◌, ◌≡◌, cond, List, eqb, length, take}
-use Rattle.std.specs.declared.option.Option.{Option}
+use Rattle.std.specs.Prelude.{ℕ, ◌+◌, ◌*◌, ◌≤◌, ◌≡◌, cond, List, eqb, length, take, Result}
 use Rattle.rules.specs.Lists.{padded}
 use Rattle.rules.specs.Index.{no_id}
 use Rattle.rules.specs.declared.Key.{Key}
@@ -14,6 +13,7 @@ use Rattle.build_groups.specs.Emit.{ids_of, Placed, Gives, output_of, emit_all}
 use Rattle.build_groups.specs.declared.Purpose.{Purpose}
 use Rattle.build_groups.specs.declared.Work.{Work}
 use Rattle.build_groups.specs.Emit.{Progress}
+use Rattle.build_groups.specs.declared.Stopped.{Stopped}
 use Rattle.build_groups.specs.declared.Tally.{Tally}
 
 -- the key with u as its id number at
@@ -47,5 +47,5 @@ pub record WalkFit (work : Work) (l : ℕ) (left : Labels) (key : Key) (at : ℕ
   pub long : 131072 * length (labels_in left) ≤ length scratch
 
 -- those keys with their lists are dealt with, one after another
-pub record WalkDone (task : Purpose) (above : ℕ) (nodes joined words : List ℕ) (left : Labels) (key : Key) (at : ℕ) (list store : List ℕ) (t : Progress) (room : List ℕ) (r : Option Tally) (room' : List ℕ) : Type 0 where
+pub record WalkDone (task : Purpose) (above : ℕ) (nodes joined words : List ℕ) (left : Labels) (key : Key) (at : ℕ) (list store : List ℕ) (t : Progress) (room : List ℕ) (r : Result Tally Stopped) (room' : List ℕ) : Type 0 where
   pub all : Gives r room' (emit_all task words store key.constraint (output_of t room) (keyed_of above nodes joined left key at list))

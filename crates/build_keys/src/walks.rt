@@ -5,7 +5,7 @@ ghost use Rattle.build_edges.specs.Packed.{forward_words};
 ghost use Rattle.build_groups.specs.Emit.{going};
 ghost use Rattle.build_keys.specs.Walk.{with_id, rest_of, WalkFit, WalkDone};
 
-use build_groups::{Tally, Work};
+use build_groups::{Stopped, Tally, Work};
 use build_neighbours::{Labels, Sides};
 use rules::Key;
 
@@ -43,7 +43,7 @@ pub struct Lists {
 // Goes through the keys that begin with the first `at` ids of `key` and go on with nodes of the labels left; `list` is the list of these ids.
 // For each label left, `scratch` has one room for a list and one for the nodes that are tried: each depth takes the first two, and lends the rest on.
 pub fn walk(
-    work: Work,
+    work: &Work,
     lists: Lists,
     left: Labels,
     key: Key,
@@ -52,17 +52,17 @@ pub fn walk(
     scratch: &mut [u32],
     room: &mut [u8],
     tally: Tally,
-) -> Option<Tally>
-    requires { WalkFit work lists.label left key at list.now scratch.old room.old }
-    ensures { WalkDone work.entry.task lists.above work.entry.graph.nodes.now (set_of work.entry.graph.joined.now) (forward_words work.entry.graph.edges.records.now) left key at list.now work.entry.store.now (going tally) room.old result room.new }
+) -> Result<Tally, Stopped>
+    requires { WalkFit work.now lists.label left key at list.now scratch.old room.old }
+    ensures { WalkDone work.now.task lists.above work.now.graph.nodes.now (set_of work.now.graph.joined.now) (forward_words work.now.graph.edges.records.now) left key at list.now work.now.store.now (going tally) room.old result room.new }
 {
     let Lists { label, above } = lists;
     if list.len() <= above as usize {
-        return Some(tally);
+        return Ok(tally);
     }
-    let Work { graph, task, store } = work;
+    let graph = work.graph;
     if left.first == 0 {
-        return build_groups::emit_one(task, graph.edges, key, list, store, room, tally);
+        return build_groups::emit_one(work.task, graph.edges, key, list, work.store, room, tally);
     }
     let sides = Sides {
         nodes: graph.nodes,
@@ -94,5 +94,5 @@ pub fn walk(
             t,
         )?;
     }
-    Some(t)
+    Ok(t)
 }

@@ -79,6 +79,8 @@ fn sift(joined: &[u32], list: &[u32], most: u32, ids: &mut [u32], room: &mut [u3
 }
 
 // Sifts the ids and sorts what is left by the marks, so that those whose parts of the list are equal stand together.
+// Not in line, for the same reason as build_edges::tried.
+#[inline(never)]
 fn group(joined: &[u32], list: &[u32], most: u32, ids: &mut [u32], scratch: &mut [u32]) -> usize
     requires { ((length list.now ≤ length scratch.old) × (length ids.old ≤ length scratch.old)) × (Strict joined.now × Strict list.now) }
     ensures { (result ≤ length ids.old) × Sifted joined.now list.now most ids.old (take result ids.new) }

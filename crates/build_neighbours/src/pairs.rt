@@ -62,6 +62,8 @@ fn put_marked(nodes: &[u8], s: u16, out: &mut [u32]) -> usize
 }
 
 // Leaves words at the front of out that say which nodes labelled s are to be tried for a list of nodes labelled l, and returns how many they are.
+// Not in line, for the same reason as build_edges::tried.
+#[inline(never)]
 pub fn paired(
     sides: Sides,
     list: &[u32],

@@ -34,8 +34,9 @@ use Rattle.std.specs.Prelude.{Result, Ok, Err}
 use Rattle.rules.specs.Refused.{refusal_number, number_of}
 use Rattle.rules.specs.declared.Refusal.{Refusal}
 use Rattle.rules.specs.declared.Refusal.TheVariants.{Header, Constraint, Pattern, Uncovered, Bound, Room}
-use Rattle.plan.specs.Plans.{answered_plan, bounded_plan, covered_plan, plan_of, plan_told}
+use Rattle.plan.specs.Plans.{planned, answered_plan, bounded_plan, covered_plan, plan_of, plan_told}
 use Rattle.plan.specs.declared.PlanRows.{PlanRows}
+use Rattle.plan.specs.declared.Size.{Size}
 
 -- ---- what right constraints and a right pattern give
 pub known-of : (b : List ℕ) (t : List (List Bool)) → pattern_right b ≡ true → Neighbours b t → Known b t
@@ -198,8 +199,8 @@ module _ (s b room : List ℕ) where
     pub told-one : r ≡ false → plan_told (Err Header) room ≡ plan_outcome s b room
     told-one h = refused-told Header (plan-number s b room ∙ refuses 1 (not (header_right s)) _ refl (ap not (sym q ∙ h)))
 
-    module _ (h : r ≡ true) (p : Result PlanRows Refusal) (e : p ≡ plan_of (constraint_part s) b) where
-      number-is : number_of p ≡ bound_number (constraint_part s) b
+    module _ (h : r ≡ true) (p : Result Size Refusal) (rows : List ℕ) (e : planned p rows ≡ plan_of (constraint_part s) b) where
+      number-is : number_of (planned p rows) ≡ bound_number (constraint_part s) b
       number-is = ap number_of e ∙ number-told (constraint_part s) b
 
       abbrev ten : ℕ
@@ -210,13 +211,16 @@ module _ (s b room : List ℕ) where
 
       pub told-other : (f : Refusal) → p ≡ Err f → plan_told (Err f) room ≡ plan_outcome s b room
       told-other f w =
-          let n : bound_number (constraint_part s) b ≡ refusal_number f = sym number-is ∙ ap number_of w in
+          let n : bound_number (constraint_part s) b ≡ refusal_number f = sym number-is ∙ ap (λ x. number_of (planned x rows)) w in
           let z : bound_number (constraint_part s) b ≡ 0 → ⊥ = λ x. eqb-false (refusal_number f) 0 (refusal-given f) (sym n ∙ x) in
           refused-told f (rest-is ∙ first-given (bound_number (constraint_part s) b) (ten ∷ []) z ∙ n)
 
-      module _ (found : PlanRows) (w : p ≡ Ok found) where
+      module _ (found : Size) (w : p ≡ Ok found) where
+        abbrev whole : PlanRows
+        whole = record { bound = found.bound; length = found.length; rows = rows }
+
         ten-is : plan_number s b room ≡ first_of (ten ∷ [])
-        ten-is = rest-is ∙ first-passed (bound_number (constraint_part s) b) (ten ∷ []) (sym number-is ∙ ap number_of w)
+        ten-is = rest-is ∙ first-passed (bound_number (constraint_part s) b) (ten ∷ []) (sym number-is ∙ ap (λ x. number_of (planned x rows)) w)
 
         pub told-ten : (n : ℕ) → n ≡ (size_of b + edges_of b) * 8 → length room < n → plan_told (Err Room) room ≡ plan_outcome s b room
         told-ten n m short =
@@ -227,8 +231,8 @@ module _ (s b room : List ℕ) where
         unfolding first_of
         answered-is l = ten-is ∙ passes 10 _ [] (le-ltb (length room) ((size_of b + edges_of b) * 8) l)
 
-        both : (found ≡ answered_plan (constraint_part s) b) × (pattern_right b ≡ true)
-        both = answered-of (constraint_part s) b found (sym w ∙ e)
+        both : (whole ≡ answered_plan (constraint_part s) b) × (pattern_right b ≡ true)
+        both = answered-of (constraint_part s) b whole (sym (ap (λ x. planned x rows) w) ∙ e)
 
         pub pattern-long : (12 ≤ length b) × ((size_of b ≤ 8) × (edges_of b ≤ 56))
         pattern-long =
@@ -244,14 +248,16 @@ module _ (s b room : List ℕ) where
             let r = (pattern-says b both.1).header in
             omega (arith, length-is, words-few (constraint_part s) b, r.few, r.few_edges)
 
-        pub length-fits : (n : ℕ) → n ≡ (size_of b + edges_of b) * 8 → n ≤ length room → length (take found.length found.rows) ≤ length room
+        pub length-fits : (n : ℕ) → n ≡ (size_of b + edges_of b) * 8 → n ≤ length room → length (take found.length rows) ≤ length room
         length-fits n m l = rw length-take (omega (arith, length-is, words-few (constraint_part s) b))
 
-        rows-are : take found.length found.rows ≡ plan_words (constraint_part s) b
+        rows-are : take found.length rows ≡ plan_words (constraint_part s) b
         unfolding answered_plan over
-        rows-are = rw (length-is, ap (λ x. x.rows) both.0) (take-append_seam (plan_words (constraint_part s) b) (drop (0 + length (plan_words (constraint_part s) b)) (replicate 512 0)))
+        rows-are =
+            let r : rows ≡ over (replicate 512 0) 0 (plan_words (constraint_part s) b) = ap (λ x. x.rows) both.0 in
+            rw (length-is, r) (take-append_seam (plan_words (constraint_part s) b) (drop (0 + length (plan_words (constraint_part s) b)) (replicate 512 0)))
 
-        pub told-zero : (after : List ℕ) (n : ℕ) → n ≡ (size_of b + edges_of b) * 8 → n ≤ length room → after ≡ take found.length found.rows ++ drop (length (take found.length found.rows)) room
+        pub told-zero : (after : List ℕ) (n : ℕ) → n ≡ (size_of b + edges_of b) * 8 → n ≤ length room → after ≡ take found.length rows ++ drop (length (take found.length rows)) room
             → plan_told (Ok found.bound) after ≡ plan_outcome s b room
         unfolding answered_plan
         told-zero after n m k a =
@@ -266,5 +272,5 @@ few-constraints s r q h part e =
     rw e (omega (arith, constraints-in s right, (header-limits s right).constraints))
 
 -- the plan of the part that is lent is the plan of the store's constraints
-pub plan-part : (s b part : List ℕ) (p : Result PlanRows Refusal) → part ≡ constraint_part s → p ≡ plan_of part b → p ≡ plan_of (constraint_part s) b
-plan-part s b part p q e = e ∙ ap (λ x. plan_of x b) q
+pub plan-part : (s b part rows : List ℕ) (p : Result Size Refusal) → part ≡ constraint_part s → planned p rows ≡ plan_of part b → planned p rows ≡ plan_of (constraint_part s) b
+plan-part s b part rows p q e = e ∙ ap (λ x. plan_of x b) q

@@ -9,6 +9,12 @@ use Rattle.rules.specs.Refused.{number_of, figure_of}
 use Rattle.rules.specs.declared.Refusal.{Refusal}
 use Rattle.rules.specs.declared.Refusal.TheVariants.{Constraint, Pattern, Uncovered, Bound}
 use Rattle.plan.specs.declared.PlanRows.{PlanRows}
+use Rattle.plan.specs.declared.Size.{Size}
+
+-- a plan by its size and the room with its rows
+abbrev pub planned : Result Size Refusal → List ℕ → Result PlanRows Refusal
+planned (Ok size) rows = Ok (record { bound = size.bound; length = size.length; rows = rows })
+planned (Err refusal) rows = Err refusal
 
 -- the plan that is answered
 unfoldable pub answered_plan : List ℕ → List ℕ → PlanRows

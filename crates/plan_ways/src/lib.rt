@@ -29,14 +29,14 @@ pub struct Asked<'a> {
     pub ghost given: { Given constraints.now b.now t.now },
 }
 
-// What the search for ways is lent: what is asked, and the figures so far.
+// What the search for ways is lent: constraints, a pattern, its table, and the figures so far. Each constraint need be right only by itself: who does not know that no two are alike asks here, others by Asked.
 #[derive(Clone, Copy)]
-struct Lent<'a> {
-    constraints: &'a [u8],
-    b: &'a [u8],
-    t: &'a [[bool; 8]; 8],
-    figures: &'a [u32; 8],
-    ghost ready: { WaysReady constraints.now b.now t.now figures.now },
+pub struct Lent<'a> {
+    pub constraints: &'a [u8],
+    pub b: &'a [u8],
+    pub t: &'a [[bool; 8]; 8],
+    pub figures: &'a [u32; 8],
+    pub ghost ready: { WaysReady constraints.now b.now t.now figures.now },
 }
 
 // The better of two: the second only if its figure is smaller.
@@ -44,8 +44,8 @@ fn better(a: Option<Row>, b: Option<Row>) -> Option<Row>
     ensures { way_in result ≡ better (way_in a) (way_in b) }
 {
     match (a, b) {
-        (None, _) => b,
         (_, None) => a,
+        (None, _) => b,
         (Some(first), Some(second)) => { if second.figure < first.figure { b } else { a } }
     }
 }
@@ -198,7 +198,7 @@ impl<'a> Lent<'a> {
     }
 
     // The best way of all uncovered nodes.
-    fn best_way(self) -> Option<Row>
+    pub fn best_way(self) -> Option<Row>
         ensures { way_in result ≡ smallest (all_ways self.entry.constraints.now self.entry.b.now self.entry.figures.now) }
     {
         (0..pattern::size_of(self.b)).fold(None, |best, u| better(best, self.best_if_uncovered(u)))
@@ -219,7 +219,7 @@ impl<'a> Lent<'a> {
     }
 
     // The best way to cover edge j.
-    fn best_for_edge(self, j: usize) -> Option<Row>
+    pub fn best_for_edge(self, j: usize) -> Option<Row>
         requires { j < edges_of self.b.now }
         ensures { way_in result ≡ smallest (edge_ways self.entry.constraints.now self.entry.b.now self.entry.figures.now j) }
     {

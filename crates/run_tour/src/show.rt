@@ -3,6 +3,18 @@ ghost use Rattle.std.specs.Prelude.{◌+◌, ◌*◌, ◌≤◌, ◌<◌};
 
 use run_text::{say, say_number};
 
+// Writes a number at the right of so many places: the spaces, then the digits, so that a write that fails loses no more than its own.
+fn say_right(rt: &impl Print, places: usize, n: u32)
+    requires { places ≤ 12 }
+{
+    let mut digits = [0u8; 20];
+    let k = io::decimal(u64::from(n), &mut digits);
+    if k < places {
+        say(rt, &[b' '; 12][..places - k]);
+    }
+    say(rt, &digits[..k]);
+}
+
 // Writes a chosen node at the right of 4 places, or - for none.
 fn say_chosen(rt: &impl Print, node: u32) {
     if node == 255 {
@@ -17,13 +29,16 @@ fn say_row(rt: &impl Print, room: &[u32; 512], i: usize)
     requires { i < 64 }
 {
     let at = i * 8;
-    let kind = if room[at] == 0 { "node" } else { "edge" };
-    let _ = print!(rt; "{:>4}  {kind}{:>8}", i + 1, room[at + 1]);
-    let _ = print!(rt; "{:>9}{:>12}", room[at + 2], room[at + 3]);
+    say_right(rt, 4, i as u32 + 1);
+    say(rt, if room[at] == 0 { b"  node" } else { b"  edge" });
+    say_right(rt, 8, room[at + 1]);
+    say_right(rt, 9, room[at + 2]);
+    say_right(rt, 12, room[at + 3]);
     for &node in &room[at + 4..at + 7] {
         say_chosen(rt, node);
     }
-    let _ = println!(rt; "{:>8}", room[at + 7]);
+    say_right(rt, 8, room[at + 7]);
+    say(rt, b"\n");
 }
 
 // Writes the rows of a plan: what lies past them is 0, and no figure is.

@@ -11,4 +11,4 @@ pass-t-requires c =
 
 pub returns : goal.returns
 returns c =
-    c.is_some.ensures ∙ index-compared c.requires.0.right _ _ _ _ _ _ c.groups_at-table.ensures c.requires.1.0 c.requires.1.1.0 c.requires.1.1.1 c.pass-t.ensures
+    c.is_ok.ensures.value ∙ index-compared c.requires.0.right _ _ _ _ _ _ c.groups_at-table.ensures c.requires.1.0 c.requires.1.1.0 c.requires.1.1.1 c.pass-t.ensures

@@ -1,4 +1,4 @@
-use Rattle.std.proofs.Common.{arith, refl}
+use Rattle.std.proofs.Common.{arith}
 use Rattle.plan.proofs.Planning.{nodes-above, edges-above, sum_above, rows-told}
 use Rattle.plan.proofs.bounded.Goals as goal
 
@@ -12,4 +12,4 @@ pub returns-then-above : goal.returns-then-above
 returns-then-above c = sum_above _ _ _ _ _ c.in-Ok.ensures _ _ c.in-Ok-edge_rows.ensures (omega arith)
 
 pub returns : goal.returns
-returns c = rows-told _ _ _ _ _ c.in-Ok.ensures _ _ c.in-Ok-edge_rows.ensures refl (omega arith)
+returns c = rows-told _ _ _ _ _ c.in-Ok.ensures _ _ c.in-Ok-edge_rows.ensures c.requires (omega arith)

@@ -1,14 +1,10 @@
-use Rattle.std.proofs.Common.{sym, ◌∙◌}
-use Rattle.plan.proofs.Planning.{plan-seven, plan-bounded}
-use Rattle.plan.proofs.Complete.{plan-complete}
+use Rattle.std.proofs.lemmas.Result.{err_from_is_err_and}
 use Rattle.plan.proofs.covered_plan.Goals as goal
 
-pub returns-then-found-rows_length : goal.returns-then-found-rows_length
-returns-then-found-rows_length c =
-    c.in-Ok.is ∙ plan-complete _ _ c.requires.right c.requires.known.few _ _ (sym c.in-Ok.is ∙ c.bounded-p.ensures) c.rows_length.ensures c.if-found-rows_length.true
-
-pub returns-then-not-all_covered : goal.returns-then-not-all_covered
-returns-then-not-all_covered c = plan-seven _ _ _ c.all_covered.ensures c.if-not-all_covered.true
+pub returns-in_err-size : goal.returns-in_err-size
+returns-in_err-size c =
+    let e = err_from_is_err_and c.from_residual.result c.from_residual.ensures.1 in
+    rw (e.1, e.2) (rw c.in_err-size.was at c.covered.ensures)
 
 pub returns : goal.returns
-returns c = c.bounded-p.ensures ∙ plan-bounded _ _ _ c.all_covered.ensures c.if-not-all_covered.false
+returns c = rw c.in_ok-size.was at c.covered.ensures

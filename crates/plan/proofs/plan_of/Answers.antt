@@ -10,13 +10,13 @@ pub returns-then-not-pattern_right : goal.returns-then-not-pattern_right
 returns-then-not-pattern_right c =
     plan-six _ _ _ c.constraints_right.ensures c.if-not-constraints_right.false _ c.pattern_right.ensures c.if-not-pattern_right.true
 
-pub neighbours-requires : goal.neighbours-requires
-neighbours-requires c = right-ends _ (sym c.pattern_right.ensures ∙ c.if-not-pattern_right.false)
+pub neighbours-t-requires : goal.neighbours-t-requires
+neighbours-t-requires c = right-ends _ (sym c.pattern_right.ensures ∙ c.if-not-pattern_right.false)
 
-pub covered_plan-requires : goal.covered_plan-requires
-covered_plan-requires c =
-    given-of _ _ _ c.requires (sym c.constraints_right.ensures ∙ c.if-not-constraints_right.false) (sym c.pattern_right.ensures ∙ c.if-not-pattern_right.false) c.neighbours.ensures
+pub invariant_of-asked : goal.invariant_of-asked
+invariant_of-asked c =
+    record { given = given-of _ _ _ c.requires.few (sym c.constraints_right.ensures ∙ c.if-not-constraints_right.false) (sym c.pattern_right.ensures ∙ c.if-not-pattern_right.false) c.neighbours-t.ensures }
 
 pub returns : goal.returns
 returns c =
-    c.covered_plan.ensures ∙ plan-on _ _ _ c.constraints_right.ensures c.if-not-constraints_right.false _ c.pattern_right.ensures c.if-not-pattern_right.false
+    c.covered.ensures ∙ plan-on _ _ _ c.constraints_right.ensures c.if-not-constraints_right.false _ c.pattern_right.ensures c.if-not-pattern_right.false

@@ -1,10 +1,10 @@
-use Rattle.std.proofs.Common.{lt-ltb, le-ltb}
+use Rattle.std.proofs.Common.{sym, lt-ltb, le-ltb}
 use Rattle.rules.specs.Plan.{smaller}
+use Rattle.laws.specs.Smallest.{better-none}
 use Rattle.plan_ways.proofs.better.Goals as goal
 
 pub returns-in_default-None : goal.returns-in_default-None
-unfolding smaller
-returns-in_default-None c = rw (c.in_default-None.is-0, c.in_default-None.is-1)
+returns-in_default-None c = rw c.in_default-None.is-1 (sym (better-none _))
 
 pub returns-then-second-first : goal.returns-then-second-first
 unfolding smaller

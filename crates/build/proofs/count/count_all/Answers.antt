@@ -7,4 +7,4 @@ pub pass-requires : goal.pass-requires
 pass-requires c = (c.requires, placed-count _ _ _ refl)
 
 pub returns : goal.returns
-returns c = count-told c.requires.right _ _ _ c.pass.ensures
+returns c = rw c.ok.ensures.value (count-told c.requires.right _ _ _ c.pass.ensures)

@@ -30,7 +30,7 @@ returns c =
     let s = c in
     let e = c.groups_at-table.ensures in
     let h = s.requires.1.1.1 in
-    rw e at (index-written s.requires.0.right _ _ _ _ _ _ s.requires.1.0 s.requires.1.1.0 (omega arith) c.pass.ensures)
+    rw e at (index-written s.requires.0.right _ _ _ c.pass.result _ _ s.requires.1.0 s.requires.1.1.0 (omega arith) c.pass.ensures)
 
 pub write_index_spec : {M : Type 1} → statement M
 write_index_spec = tie.close (tie.spec groups-at-requires mul-t9 add-t10 pass-requires same-length returns)

@@ -1,6 +1,5 @@
 -- proofs/passes/pass/Answers.antt
-use Rattle.std.proofs.Common.{rules, refl, subst}
-use Rattle.build_groups.specs.Emit.{Gives}
+use Rattle.std.proofs.Common.{rules}
 use Rattle.laws.specs.Rooms.{new-fits, new-long}
 use Rattle.build_edges.proofs.Sections.{edges-fit}
 use Rattle.build_keys.proofs.Index.{right-sound}
@@ -42,4 +41,4 @@ visit_all-requires c =
 
 pub returns : goal.returns
 returns c =
-    subst (Gives _ _) (pass-done _ _ _ _ _ _ _ _ _ c.node_part-nodes.ensures c.edge_part-edges.ensures c.constraint_part-constraints.ensures c.requires.0.words refl) c.visit_all.ensures
+    pass-done _ _ _ _ _ _ _ _ _ c.node_part-nodes.ensures c.edge_part-edges.ensures c.constraint_part-constraints.ensures c.requires.0.words c.visit_all.ensures

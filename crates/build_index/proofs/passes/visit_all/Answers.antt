@@ -1,5 +1,6 @@
 -- proofs/passes/visit_all/Answers.antt
 use Rattle.std.proofs.Common.{ℕ, List}
+use Rattle.std.proofs.lemmas.Result.{err_from_is_err_and}
 use Rattle.rules.specs.Store.{constraints_in}
 use Rattle.laws.specs.Loops.{FoldLeft, fold-start, fold-next, fold-done}
 use Rattle.build_groups.specs.declared.Purpose.{Purpose}
@@ -26,7 +27,9 @@ pub loop-c-preserved : goal.loop-c-preserved
 loop-c-preserved c = fold-next c.loop-c.invariant _ c.loop-c-test.true c.in_ok-t.ensures
 
 pub returns-in_err-t : goal.returns-in_err-t
-returns-in_err-t c = rw c.from_residual.ensures (all-broken _ _ _ _ _ _ c.loop-c.invariant c.loop-c-test.true c.in_err-t.ensures)
+returns-in_err-t c =
+    let p = err_from_is_err_and c.from_residual.result c.from_residual.ensures.1 in
+    rw (p.1, p.2) (all-broken _ _ _ _ _ _ c.loop-c.invariant c.loop-c-test.true c.in_err-t.ensures)
 
 pub returns : goal.returns
 returns c = fold-done c.loop-c.invariant c.loop-c-test.false

@@ -1,5 +1,6 @@
 -- proofs/passes/visit_each/Answers.antt
 use Rattle.std.proofs.Common.{sym, ◌∙◌, arith}
+use Rattle.std.proofs.lemmas.Result.{err_from_is_err_and}
 use Rattle.build_index.proofs.Visiting.{left-start, left-skip, left-take, left-broken, left-none, ready-same}
 use Rattle.build_index.proofs.passes.visit_each.Goals as goal
 use Rattle.build_index.proofs.passes.visit_each.Goals.{then-has_label+in_ok-t, else-has_label}
@@ -9,7 +10,8 @@ loop-u-init c = left-start _ _ _ _ _ _ _ _ _ _ _ _
 
 pub returns-in_err-t : goal.returns-in_err-t
 returns-in_err-t c =
-    rw c.from_residual.ensures
+    let p = err_from_is_err_and c.from_residual.result c.from_residual.ensures.1 in
+    rw (p.1, p.2)
     (left-broken _ _ _ _ _ _ _ _ _ _ c.loop-u.invariant c.loop-u-test.true (sym c.has_label.ensures ∙ c.if-has_label.true) c.in_err-t.ensures)
 
 pub visit_from-requires : goal.visit_from-requires

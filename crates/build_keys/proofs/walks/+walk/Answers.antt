@@ -1,5 +1,6 @@
 -- proofs/walks/+walk/Answers.antt
 use Rattle.std.proofs.Common.{rules, arith, refl}
+use Rattle.std.proofs.lemmas.Result.{err_from_is_err_and}
 use Rattle.build_keys.proofs.Going.{labels-fall, fit-next, scratch-here, begun, ascends, part-short, small, part-kept, taken, broken, ended, none, whole}
 use Rattle.build_keys.proofs.walks.+walk.Goals as goal
 
@@ -41,7 +42,8 @@ returns-in_err-t t c =
     let end = c.run_end-end.ensures in
     let rest = c.rest_of.ensures in
     let fall = labels-fall _ _ more rest in
-    rw c.from_residual.ensures
+    let p = err_from_is_err_and c.from_residual.result c.from_residual.ensures.1 in
+    rw (p.1, p.2)
     (broken g _ test refl _ end.1 (omega arith) c.with_id-next.ensures rest (part-kept g _ test refl _ end.1 end.0 c.part_of-k.ensures.1) c.in_err-t.ensures)
 
 pub run_end-end-requires : goal.run_end-end-requires
